@@ -1,0 +1,5 @@
+pub mod Words
+pub mod Rows
+pub mod MeterRows
+pub mod MeterLines
+pub mod Status
