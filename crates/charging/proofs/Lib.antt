@@ -4,3 +4,4 @@ pub mod Readings
 pub mod Runs
 pub mod Tables
 pub mod Ranges
+pub mod Causes

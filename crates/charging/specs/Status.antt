@@ -56,3 +56,13 @@ EndedBy status.ReadFault left before now = CountRose before now
 EndedBy status.WriteFault left before now = ⊥
 EndedBy status.OutOfMemory left before now = ⊤
 EndedBy status.InputTooLong left before now = IfSome left (λ bytes. 2 ^ 28 < length bytes)
+
+-- the statuses at which the input was read to its end
+abbrev pub ReadsToEnd : Status → Type 0
+ReadsToEnd status.Ok = ⊤
+ReadsToEnd status.Usage = ⊥
+ReadsToEnd (status.BadInput row) = ⊤
+ReadsToEnd status.ReadFault = ⊥
+ReadsToEnd status.WriteFault = ⊤
+ReadsToEnd status.OutOfMemory = ⊥
+ReadsToEnd status.InputTooLong = ⊥

@@ -3,8 +3,7 @@ ghost use Rattle.std.specs.Io.KnownBytes.{Appends, IsAtEnd};
 ghost use Rattle.edge.specs.Faults.{CountRose};
 ghost use Rattle.meter.specs.Meter.{Contents};
 ghost use Rattle.charging.specs.Words.{AreInRange, meter_words};
-ghost use Rattle.charging.specs.declared.words.Prices.{Prices};
-ghost use Rattle.charging.specs.Status.{EndedBy, IsTable, Reads, WritesText, error_line};
+ghost use Rattle.charging.specs.Status.{EndedBy, IsTable, Reads, ReadsToEnd, WritesText, error_line};
 
 use crate::lines::table;
 use crate::meter_rows::{RowsEnd, meter_rows};
@@ -47,6 +46,7 @@ fn table_of_input<S: Source>(
     requires { AreInRange prices.now }
     ensures ok { IfOk result (λ text. IfSome (S.left input.old) (λ bytes. IsTable prices.now bytes (string_bytes text))) }
     ensures end { OnOk result (IsAtEnd (S.left input.new)) }
+    ensures bad_end { IfErr result (λ status. ReadsToEnd status → IsAtEnd (S.left input.new)) }
     ensures err { IfErr result (λ status. EndedBy status (S.left input.old) (S.faults input.old) (S.faults input.new)) }
 {
     match read_all(alloc, input, INPUT_LIMIT) {
@@ -64,17 +64,38 @@ pub fn charging<S: Source, K: Sink>(
     input: &mut S,
     output: &mut K,
 ) -> Status
-    // At Ok the input was read to its end, and its table is written.
-    ensures end { (result ≡ Status.Ok) → IsAtEnd (S.left input.new) }
+    // Usage comes exactly by the words, and then nothing is read.
+    ensures usage { (result ≡ Status.Usage) → (meter_words words.now ≡ None) }
+    ensures no_command { (meter_words words.now ≡ None) → (result ≡ Status.Usage) ⊎ (result ≡ Status.OutOfMemory) }
+    ensures unread { (meter_words words.now ≡ None) → input.new ≡ input.old }
+
+    // At Ok, BadInput and WriteFault the input was read to its end; at Ok its table is written.
+    ensures end { ReadsToEnd result → IsAtEnd (S.left input.new) }
     ensures ok { (result ≡ Status.Ok) → IfSome (meter_words words.now) (λ prices. IfSome (S.left input.old) (λ bytes.
         (text : List ℕ) × IsTable prices bytes text × Appends (K.written output.old) (K.written output.new) text)) }
 
-    // Each other status has its cause.
-    ensures usage { (result ≡ Status.Usage) → (meter_words words.now ≡ None) }
+    // Each other status has its cause. At WriteFault a part of the table is written.
     ensures bad_input { (row : ℕ) → (result ≡ Status.BadInput row) → IfSome (S.left input.old) (λ bytes. Reads bytes (Err row)) }
     ensures read_fault { (result ≡ Status.ReadFault) → CountRose (S.faults input.old) (S.faults input.new) }
     ensures too_long { (result ≡ Status.InputTooLong) → IfSome (S.left input.old) (λ bytes. 2 ^ 28 < length bytes) }
     ensures write_fault { (result ≡ Status.WriteFault) → CountRose (K.faults output.old) (K.faults output.new) }
+    ensures part { (result ≡ Status.WriteFault) → IfSome (meter_words words.now) (λ prices. IfSome (S.left input.old) (λ bytes.
+        (text : List ℕ) × IsTable prices bytes text × (n : ℕ) × Appends (K.written output.old) (K.written output.new) (take n text))) }
+
+    // Every status but Ok and WriteFault prints its line alone.
+    ensures line { (result ≢ Status.Ok) → (result ≢ Status.WriteFault) →
+        WritesText (error_line result) (K.written output.old) (K.written output.new) (K.faults output.old) (K.faults output.new) }
+
+    // Where the words are accepted and no read failed, the input decides, but for want of memory and faults of the output.
+    ensures accepted { (bytes : List ℕ) (contents : Contents) → (meter_words words.now ≢ None) → S.left input.old ≡ Some bytes → Reads bytes (Ok contents)
+        → ¬ CountRose (S.faults input.old) (S.faults input.new) → ¬ CountRose (K.faults output.old) (K.faults output.new)
+        → (result ≡ Status.Ok) ⊎ (result ≡ Status.OutOfMemory) }
+    ensures refused { (bytes : List ℕ) (row : ℕ) → (meter_words words.now ≢ None) → S.left input.old ≡ Some bytes → Reads bytes (Err row)
+        → ¬ CountRose (S.faults input.old) (S.faults input.new)
+        → (result ≡ Status.BadInput row) ⊎ (result ≡ Status.OutOfMemory) }
+    ensures overlong { (bytes : List ℕ) → (meter_words words.now ≢ None) → S.left input.old ≡ Some bytes → 2 ^ 28 < length bytes
+        → ¬ CountRose (S.faults input.old) (S.faults input.new)
+        → (result ≡ Status.InputTooLong) ⊎ (result ≡ Status.OutOfMemory) }
 {
     let Some(prices) = meter_prices(words.as_slice()) else {
         return ended(alloc, output, Status::Usage);
