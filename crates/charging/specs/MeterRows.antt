@@ -1,5 +1,6 @@
 -- The rows of the command `meter`: `moment,up,down,seconds`, each a usage report of group 0, numbered from 1 (this product's own).
 use Rattle.std.specs.Prelude.{ℕ, ◌≡◌, ◌+◌, ◌-◌, ◌^◌, List, [], ◌∷◌, Option, Some, None, Result, Ok, Err, option_and_then}
+use Rattle.units.specs.Cut.{AreWidestCuts, whole_hour}
 use Rattle.units.specs.declared.report.Report.{Report}
 use Rattle.meter.specs.Meter.{Contents, after_report, answer_of, nothing_yet}
 use Rattle.meter.specs.declared.refusal.Seen.{Seen}
@@ -55,3 +56,8 @@ pub record Comes (bytes : List ℕ) (outcome : Result Contents ℕ) : Type 0 whe
   pub rows : List (List (List ℕ))
   pub of_input : AreRows bytes rows
   pub run : outcome_from 1 nothing_yet rows ≡ outcome
+
+-- the meter comes to these contents over the rows of an input, and their containers are the one hourly cut of the rows' reports that the rule for joining makes
+pub record IsMetered (bytes : List ℕ) (contents : Contents) : Type 0 where
+  pub comes : Comes bytes (Ok contents)
+  pub cut : AreWidestCuts whole_hour (reports_from 1 comes.rows) contents.containers

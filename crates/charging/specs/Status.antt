@@ -3,11 +3,12 @@ use Rattle.std.specs.Prelude.{ℕ, ◌≡◌, ◌^◌, ◌<◌, ◌≤◌, List,
 use Rattle.std.specs.Fmt.{decimal}
 use Rattle.std.specs.Io.KnownBytes.{Appends}
 use Rattle.edge.specs.Faults.{CountRose}
-use Rattle.meter.specs.Meter.{Contents}
+use Rattle.units.specs.Cut.{AreWidestCuts, whole_hour}
+use Rattle.meter.specs.Meter.{AreNumbered, Contents}
 use Rattle.charging.specs.declared.words.Prices.{Prices}
 use Rattle.charging.specs.declared.status.Status.{Status}
 use Rattle.charging.specs.declared.status.Status.TheVariants as status
-use Rattle.charging.specs.MeterRows.{Comes}
+use Rattle.charging.specs.MeterRows.{Comes, reports_from}
 use Rattle.charging.specs.MeterLines.{table_of}
 
 -- the number that the program exits with
@@ -41,10 +42,13 @@ pub record Reads (bytes : List ℕ) (outcome : Result Contents ℕ) : Type 0 whe
   pub within : length bytes ≤ 2 ^ 28
   pub comes : Comes bytes outcome
 
--- the table of an input: the lines of the containers that the meter makes of its rows
+-- the table of an input: the lines of the containers that the meter makes of its rows, numbered from 1, which are the one hourly
+-- cut of the rows' reports that the rule for joining makes
 pub record IsTable (prices : Prices) (bytes text : List ℕ) : Type 0 where
   pub contents : Contents
   pub reads : Reads bytes (Ok contents)
+  pub cut : AreWidestCuts whole_hour (reports_from 1 reads.comes.rows) contents.containers
+  pub numbered : AreNumbered 1 contents.containers
   pub text_is : text ≡ table_of prices contents.containers
 
 -- what a status that ends a run before its output says of the input

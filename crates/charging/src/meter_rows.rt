@@ -1,7 +1,7 @@
-ghost use Rattle.std.specs.Prelude.{◌≡◌, ◌<◌, ◌^◌, ℕ, ◌∷◌, [], Ok, Err, OnOk};
+ghost use Rattle.std.specs.Prelude.{◌≡◌, ◌<◌, ◌^◌, ℕ, ◌∷◌, [], Err, OnOk};
 ghost use Rattle.csv.specs.Records.{fields_of};
 ghost use Rattle.meter.specs.Meter.{nothing_yet};
-ghost use Rattle.charging.specs.MeterRows.{Comes, report_from, report_of};
+ghost use Rattle.charging.specs.MeterRows.{Comes, IsMetered, report_from, report_of};
 ghost use Rattle.charging.specs.declared.meter_rows.RowsEnd.TheVariants as end;
 
 use crate::csv_rows::{next_row, rows_of};
@@ -66,7 +66,7 @@ fn row_report(count: u32, row: &ByteRecord) -> Option<Report>
 /// Gives the rows of an input to a meter, in order, up to the first that is not accepted.
 pub fn meter_rows(alloc: Global, meter: &mut Meter, bytes: &[u8]) -> Result<(), RowsEnd>
     requires { meter.old.contents ≡ nothing_yet }
-    ensures ok { OnOk result (Comes bytes.now (Ok meter.new.contents)) }
+    ensures ok { OnOk result (IsMetered bytes.now meter.new.contents) }
     ensures bad { (row : ℕ) → result ≡ Err (RowsEnd.Bad row) → Comes bytes.now (Err row) }
 {
     let mut reader = rows_of(alloc, bytes);

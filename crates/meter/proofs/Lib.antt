@@ -1,5 +1,15 @@
+pub mod Finds
+pub mod Lasts
 pub mod Groups
-pub mod Places
 pub mod Admitted
 pub mod Kept
-pub mod Totals
+pub mod Opens
+pub mod Places
+pub mod Unsafe
+pub mod After
+pub mod Runs
+pub mod Closes
+pub mod Cuts
+pub mod Sound
+pub mod Firsts
+pub mod Undisturbed

@@ -1,2 +1,3 @@
+pub mod Horizons
 pub mod Meter
 pub mod Caches

@@ -1,87 +1,53 @@
-ghost use Rattle.std.specs.Prelude.{◌≡◌, ◌≤◌, ◌<◌, ◌+◌, ◌^◌, ◌++◌, ◌∷◌, [], true, false, length, Ok, IsTrue, vec_len, vec_capacity, slice_index_or, slice_set};
-ghost use Rattle.std.specs.List.{HoldsAt};
-ghost use Rattle.meter.specs.Caches.{AreKept};
-ghost use Rattle.meter.specs.Meter.{answer_to, joined, may_join, opened, is_in, groups_of};
-ghost use Rattle.meter.specs.declared.refusal.Seen.TheVariants.{New};
+ghost use Rattle.std.specs.Prelude.{◌≡◌, ◌≤◌, ◌<◌, ◌+◌, ◌-◌, ◌^◌, ◌++◌, ◌∷◌, [], length, Some, None, vec_len, vec_capacity, slice_set};
+ghost use Rattle.meter.specs.Caches.{AreKept, Admitted};
+ghost use Rattle.meter.specs.Meter.{last_in, extended, opened};
 
-use crate::counts::{GroupCount, first_of, joins, place_of, with_report};
+use crate::close::Close;
+use crate::container::{first_of, with_report};
+use crate::counts::{GroupCount, count_on};
 use units::{Container, Moment, Report};
 
-// The report joins the open container of the group at this place.
+// The report joins the last container of its group.
 pub fn grow(
     containers: &mut Vec<Container>,
-    groups: &mut Vec<GroupCount>,
+    counts: &mut Vec<GroupCount>,
     last: Moment,
     total: u32,
-    at: usize,
+    container: &Container,
     report: &Report,
 )
-    requires kept { AreKept containers.old.items groups.old.items last total }
-    requires new { answer_to containers.old.items report.now ≡ Ok New }
-    requires at { at < length groups.old.items }
-    requires group { HoldsAt (λ g. g.group ≡ report.now.group) groups.old.items at }
-    requires joins { HoldsAt (λ g. HoldsAt (λ c. may_join c report.now ≡ true) containers.old.items g.place) groups.old.items at }
-    ensures kept { AreKept containers.new.items groups.new.items report.now.moment (total + 1) }
-    ensures joined { containers.new.items ≡ joined containers.old.items report.now }
+    requires kept { AreKept containers.old.items counts.old.items last total }
+    requires new { Admitted containers.old.items report.now }
+    requires room { vec_len counts.old < vec_capacity counts.old }
+    requires last { last_in report.now.group containers.old.items ≡ Some container.now }
+    requires seconds { container.now.seconds + report.now.seconds < 2 ^ 32 }
+    ensures kept { AreKept containers.new.items counts.new.items report.now.moment (total + 1) }
+    ensures joined { containers.new.items ≡ slice_set containers.old.items (container.now.lsn - 1) (extended container.now report.now) }
 {
-    let count = groups[at];
-    let container = with_report(&containers[count.place], report);
-    containers[count.place] = container;
-    groups[at] = GroupCount {
-        expected: count.expected + 1,
-        ..count
-    };
+    containers[(container.lsn - 1) as usize] = with_report(container, report);
+    count_on(counts, report.group, container.lsn);
 }
 
-// The report opens the next container of the group at this place.
+// The report opens the next container.
 pub fn open_next(
     containers: &mut Vec<Container>,
-    groups: &mut Vec<GroupCount>,
-    last: Moment,
-    total: u32,
-    at: usize,
-    report: &Report,
-)
-    requires kept { AreKept containers.old.items groups.old.items last total }
-    requires new { answer_to containers.old.items report.now ≡ Ok New }
-    requires room { vec_len containers.old < vec_capacity containers.old }
-    requires at { at < length groups.old.items }
-    requires group { HoldsAt (λ g. g.group ≡ report.now.group) groups.old.items at }
-    requires joins { HoldsAt (λ g. HoldsAt (λ c. may_join c report.now ≡ false) containers.old.items g.place) groups.old.items at }
-    ensures kept { AreKept containers.new.items groups.new.items report.now.moment (total + 1) }
-    ensures joined { containers.new.items ≡ joined containers.old.items report.now }
-{
-    let count = groups[at];
-    let place = containers.len();
-    containers.push_reserved(first_of(place as u32 + 1, report));
-    groups[at] = GroupCount {
-        expected: count.expected + 1,
-        place,
-        ..count
-    };
-}
-
-// The report opens the first container of its group.
-pub fn open_first(
-    containers: &mut Vec<Container>,
-    groups: &mut Vec<GroupCount>,
+    closes: &mut Vec<Option<Close>>,
+    counts: &mut Vec<GroupCount>,
     last: Moment,
     total: u32,
     report: &Report,
 )
-    requires kept { AreKept containers.old.items groups.old.items last total }
-    requires new { answer_to containers.old.items report.now ≡ Ok New }
-    requires room { vec_len containers.old < vec_capacity containers.old }
-    requires count_room { vec_len groups.old < vec_capacity groups.old }
-    requires first { is_in report.now.group (groups_of containers.old.items) ≡ false }
-    ensures kept { AreKept containers.new.items groups.new.items report.now.moment (total + 1) }
-    ensures joined { containers.new.items ≡ joined containers.old.items report.now }
+    requires kept { AreKept containers.old.items counts.old.items last total }
+    requires new { Admitted containers.old.items report.now }
+    requires place { vec_len containers.old < vec_capacity containers.old }
+    requires close_place { vec_len closes.old < vec_capacity closes.old }
+    requires room { vec_len counts.old < vec_capacity counts.old }
+    ensures kept { AreKept containers.new.items counts.new.items report.now.moment (total + 1) }
+    ensures opened { containers.new.items ≡ containers.old.items ++ opened (length containers.old.items + 1) report.now ∷ [] }
+    ensures not_closed { closes.new.items ≡ closes.old.items ++ None ∷ [] }
 {
-    let place = containers.len();
-    containers.push_reserved(first_of(place as u32 + 1, report));
-    groups.push_reserved(GroupCount {
-        group: report.group,
-        expected: 2,
-        place,
-    });
+    let lsn = containers.len() as u32 + 1;
+    containers.push_reserved(first_of(lsn, report));
+    closes.push_reserved(None);
+    count_on(counts, report.group, lsn);
 }
