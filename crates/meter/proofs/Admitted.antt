@@ -1,7 +1,6 @@
 -- What holds of a report that is answered `New`.
-use Rattle.std.proofs.Common.{◌≡◌, ◌==◌, ℕ, ◌+◌, ◌^◌, ◌<◌, ◌≤◌, ◌||◌, ◌&&◌, ◌⊎◌, inl, inr, Bool, true, false, not, List, length, refl, sym, ◌∙◌, ap, rules, arith, Ok, Err, Result, cond, nat_lt, nat_le}
+use Rattle.std.proofs.Common.{◌≡◌, ◌==◌, ℕ, ◌^◌, ◌<◌, ◌&&◌, ◌⊎◌, inl, inr, Bool, true, false, not, length, refl, arith, Ok, Err, Result, cond, nat_lt, nat_le}
 use Rattle.std.proofs.lemmas.Bool.Decides.{nat_tests}
-use Rattle.std.proofs.lemmas.Grind.{common_steps}
 use Rattle.units.specs.declared.report.Report.{Report}
 use Rattle.meter.specs.declared.refusal.Seen.{Seen}
 use Rattle.meter.specs.declared.refusal.Seen.TheVariants.{New, Known}

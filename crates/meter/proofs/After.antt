@@ -1,17 +1,13 @@
 -- What a report does: it joins, or it opens.
-use Rattle.std.proofs.Common.{◌≡◌, ◌≢◌, ◌==◌, ℕ, suc, zero, ◌+◌, ◌-◌, ◌^◌, ◌<◌, ◌≤◌, ◌&&◌, ◌⊎◌, inl, inr, not, nat_lt, Bool, true, false, cond, List, [], ◌∷◌, ◌++◌, length, set, refl, sym, ◌∙◌, ap, arith, Option, Some, None}
-use Rattle.std.specs.List.{slice_get}
-use Rattle.std.specs.Option.{option_flatten}
+use Rattle.std.proofs.Common.{◌≡◌, ℕ, ◌+◌, ◌-◌, ◌^◌, ◌<◌, ◌≤◌, ◌&&◌, ◌⊎◌, inl, inr, not, nat_lt, Bool, true, false, cond, List, set, refl, sym, ◌∙◌, ap, arith, Option, Some, None}
 use Rattle.std.proofs.lemmas.Bool.Decides.{nat_tests}
-use Rattle.std.proofs.lemmas.Grind.{common_steps}
 use Rattle.units.specs.Cut.{NoSwitchWithin, SwitchWithin}
 use Rattle.units.specs.declared.report.Report.{Report}
 use Rattle.units.specs.declared.report.Container.{Container}
-use Rattle.units.specs.declared.trigger.TriggerType.TheVariants.{TariffTimeChange, TimeLimit}
 use Rattle.meter.specs.declared.close.Close.{Close}
 use Rattle.meter.specs.declared.horizon.Horizon.{Horizon}
 use Rattle.meter.specs.Horizons.{is_unsafe, has_unsafe}
-use Rattle.meter.specs.Meter.{Contents, open_of, last_of, last_in, unless_closed, close_of_last, close_of, horizon_of, may_join, trigger_of, opened, extended, with_joined, with_closed, with_opened, report_taken, after_report, IsTaken}
+use Rattle.meter.specs.Meter.{Contents, open_of, last_of, unless_closed, close_of_last, close_of, horizon_of, may_join, trigger_of, with_joined, with_closed, with_opened, report_taken, after_report, IsTaken}
 use Rattle.meter.proofs.Unsafe.{no_unsafe, some_unsafe, unsafe_is_some, unsafe_is_none}
 
 kept_last : (last : Option Container) (k : Option Close) (c : Container) → unless_closed last k ≡ Some c → (last ≡ Some c) × (k ≡ None)

@@ -1,9 +1,8 @@
 -- The container with a number, and how it was closed.
-use Rattle.std.proofs.Common.{◌≡◌, ◌≢◌, ◌==◌, ℕ, suc, zero, ◌+◌, ◌-◌, ◌<◌, ◌≤◌, Bool, true, false, cond, List, [], ◌∷◌, length, get_or, refl, sym, ◌∙◌, ap, arith, eq-eqb, Option, Some, None}
+use Rattle.std.proofs.Common.{◌≡◌, ◌==◌, ℕ, suc, zero, ◌+◌, ◌-◌, ◌<◌, ◌≤◌, List, [], ◌∷◌, length, get_or, refl, ◌∙◌, ap, arith, eq-eqb, Option, Some, None}
 use Rattle.std.specs.List.{slice_get, find}
 use Rattle.std.specs.Option.{option_flatten}
 use Rattle.units.specs.declared.report.Container.{Container}
-use Rattle.units.specs.declared.trigger.Closed.{Closed}
 use Rattle.meter.specs.declared.close.Close.{Close}
 use Rattle.meter.specs.Meter.{Contents, close_of, closed_of, closed_as, AreNumbered}
 use Rattle.meter.proofs.Finds.{got}

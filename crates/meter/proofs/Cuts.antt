@@ -1,18 +1,15 @@
 -- The containers stay a cut of the reports as a report is taken.
-use Rattle.std.proofs.Common.{◌≡◌, ◌≢◌, ◌==◌, ℕ, suc, zero, ◌+◌, ◌-◌, ◌^◌, ◌<◌, ◌≤◌, ◌&&◌, ◌⊎◌, inl, inr, not, Bool, true, false, cond, List, [], ◌∷◌, ◌++◌, length, filter, set, get_or, refl, sym, ◌∙◌, ap, subst, arith, eq-eqb, Option, Some, None}
-use Rattle.std.specs.List.{last_or, slice_get, find}
-use Rattle.std.specs.Option.{option_flatten}
+use Rattle.std.proofs.Common.{◌≡◌, ◌≢◌, ◌==◌, ℕ, ◌+◌, ◌-◌, ◌^◌, ◌≤◌, ◌&&◌, ◌⊎◌, inl, inr, Bool, true, false, List, [], ◌∷◌, ◌++◌, length, set, refl, sym, ◌∙◌, ap, subst, arith, eq-eqb, Option, Some, None}
+use Rattle.std.specs.List.{find}
 use Rattle.std.proofs.lemmas.Bool.{eqb-true, eqb-false}
-use Rattle.std.proofs.lemmas.List.{append-nil, length-append}
+use Rattle.std.proofs.lemmas.List.{append-nil}
 use Rattle.std.proofs.lemmas.List.Elements.{filter-append}
-use mathlib.Core.Bool.{true≢false}
 use Rattle.units.specs.declared.report.Report.{Report}
 use Rattle.units.specs.declared.report.Container.{Container}
 use Rattle.units.specs.Cut.{reports_of, containers_of, NoSwitchWithin, SwitchWithin, IsCut, AreCuts, IsWidestCut, AreWidestCuts, no_switch, whole_hour}
-use Rattle.meter.specs.declared.close.Close.{Close}
 use Rattle.meter.specs.declared.horizon.Horizon.{Horizon}
 use Rattle.meter.specs.Horizons.{is_within, is_unsafe, AreForeseen}
-use Rattle.meter.specs.Meter.{Contents, open_of, last_of, last_in, horizon_of, may_join, opened, extended, with_joined, with_opened, after_report, AreNumbered, IsUndisturbed}
+use Rattle.meter.specs.Meter.{Contents, open_of, last_of, horizon_of, may_join, opened, extended, after_report, AreNumbered, IsUndisturbed}
 use Rattle.meter.proofs.Lasts.{LastAt, last_at, last_set, of_middle, of_middle_other, of_push, of_push_other}
 use Rattle.meter.proofs.Runs.{cut_more, cut_join, widest_more, widest_join, StaysOut}
 use Rattle.meter.proofs.After.{JoinsAt, OpensAt, after_is, open_last, joins_safe, joins_not}

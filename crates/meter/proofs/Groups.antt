@@ -1,7 +1,6 @@
 -- Groups: which there are, and what is counted of each.
-use Rattle.std.proofs.Common.{◌≡◌, ◌≢◌, ◌==◌, ℕ, suc, zero, ◌+◌, ◌<◌, ◌≤◌, ◌||◌, Bool, true, false, not, cond, List, [], ◌∷◌, ◌++◌, length, map, fold, filter, get_or, set, sum_by, refl, sym, ◌∙◌, ap, rules, arith, Option, Some, None, is_some, eq-eqb}
+use Rattle.std.proofs.Common.{◌≡◌, ◌≢◌, ◌==◌, ℕ, suc, zero, ◌+◌, ◌<◌, ◌||◌, Bool, true, false, cond, List, [], ◌∷◌, ◌++◌, length, map, fold, get_or, set, refl, sym, ◌∙◌, ap, arith, Some, None, is_some, eq-eqb}
 use Rattle.std.specs.List.{list_any, position, AllByRecursion}
-use Rattle.std.proofs.lemmas.Grind.{common_steps}
 use Rattle.std.proofs.lemmas.Bool.Decides.{nat_tests}
 use Rattle.std.proofs.lemmas.Bool.{eqb-true}
 use Rattle.std.proofs.lemmas.List.Folds.{list_any-append}
@@ -9,7 +8,7 @@ use Rattle.units.specs.Cut.{containers_of}
 use Rattle.units.specs.declared.report.Container.{Container}
 use Rattle.meter.specs.declared.counts.GroupCount.{GroupCount}
 use Rattle.meter.specs.declared.horizon.Horizon.{Horizon}
-use Rattle.meter.specs.Meter.{group_total, is_in, with_group, with_horizon, last_in}
+use Rattle.meter.specs.Meter.{group_total, is_in, with_group, with_horizon}
 use Rattle.std.proofs.lemmas.List.Quantifiers.{position-Some}
 use Rattle.meter.specs.Caches.{AreDistinct, counted_on, IsCountOf}
 use Rattle.meter.proofs.Finds.{position_finds, list_any-map}

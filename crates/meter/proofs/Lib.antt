@@ -13,3 +13,4 @@ pub mod Cuts
 pub mod Sound
 pub mod Firsts
 pub mod Undisturbed
+pub mod Earlier

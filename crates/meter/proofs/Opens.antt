@@ -1,12 +1,10 @@
 -- The open container of a group, by what stands at its place.
-use Rattle.std.proofs.Common.{◌≡◌, ◌==◌, ℕ, ◌+◌, ◌-◌, ◌<◌, ◌≤◌, Bool, true, false, List, [], length, map, fold, get_or, refl, sym, ◌∙◌, ap, arith, Option, Some, None}
-use Rattle.std.specs.List.{last_or, slice_get, list_any, position, AllByRecursion}
-use Rattle.std.specs.Option.{option_flatten}
-use Rattle.units.specs.Cut.{containers_of}
+use Rattle.std.proofs.Common.{◌≡◌, ◌==◌, ℕ, ◌-◌, ◌<◌, ◌≤◌, List, length, get_or, refl, sym, ◌∙◌, ap, arith, Option, Some, None}
+use Rattle.std.specs.List.{last_or, slice_get, position}
 use Rattle.units.specs.declared.report.Container.{Container}
 use Rattle.meter.specs.declared.close.Close.{Close}
 use Rattle.meter.specs.declared.counts.GroupCount.{GroupCount}
-use Rattle.meter.specs.Meter.{Contents, open_of, last_of, last_in, close_of, unless_closed, close_of_last, with_group, AreNumbered}
+use Rattle.meter.specs.Meter.{Contents, open_of, last_of, last_in, unless_closed}
 use Rattle.meter.specs.Caches.{IsCountOf, AreKept}
 use Rattle.meter.proofs.Finds.{got}
 use Rattle.meter.proofs.Lasts.{LastAt, last_at, last_within, last_read}

@@ -1,7 +1,6 @@
 -- How many groups there are, and that there are at most 16.
-use Rattle.std.proofs.Common.{◌≡◌, ◌≢◌, ◌==◌, ℕ, suc, zero, ◌+◌, ◌<◌, ◌≤◌, ◌||◌, nat_lt, ◌⊎◌, inl, inr, Bool, true, false, not, cond, List, [], ◌∷◌, ◌++◌, length, map, fold, filter, sum_by, refl, sym, ◌∙◌, ap, subst, rules, arith, eq-eqb, Option, Some, None, is_some, is_none}
+use Rattle.std.proofs.Common.{◌≡◌, ◌≢◌, ◌==◌, ℕ, ◌+◌, ◌<◌, ◌≤◌, ◌||◌, nat_lt, ◌⊎◌, inl, inr, Bool, true, false, not, cond, List, [], ◌∷◌, ◌++◌, length, map, fold, filter, refl, sym, ◌∙◌, ap, arith, eq-eqb, Option, Some, None, is_some, is_none}
 use Rattle.std.specs.List.{list_any, position, count_by, find}
-use Rattle.std.proofs.lemmas.Grind.{common_steps}
 use Rattle.std.proofs.lemmas.Bool.Decides.{nat_tests}
 use Rattle.std.proofs.lemmas.Bool.{eqb-true}
 use Rattle.std.proofs.lemmas.List.{length-append, map-append, length-map}
@@ -14,7 +13,7 @@ use Rattle.meter.specs.declared.horizon.Horizon.{Horizon}
 use Rattle.meter.specs.Meter.{Contents, groups_of, is_in, with_group, with_horizon, HasPlaceFor}
 use Rattle.meter.specs.Caches.{AreDistinct}
 use Rattle.meter.proofs.Finds.{position_finds, list_any-map}
-use Rattle.meter.proofs.Groups.{is_in-with_group, is_in-fold, distinct-fold, distinct-append}
+use Rattle.meter.proofs.Groups.{is_in-with_group, is_in-fold, distinct-fold}
 use Rattle.meter.proofs.Lasts.{not_eq}
 
 -- without one number

@@ -1,14 +1,14 @@
 -- Runs and cuts with one report more.
-use Rattle.std.proofs.Common.{◌≡◌, ◌≢◌, ◌==◌, ℕ, suc, zero, ◌+◌, ◌^◌, ◌<◌, ◌≤◌, ◌⊎◌, inl, inr, nat_le, Bool, true, false, cond, List, [], ◌∷◌, ◌++◌, length, sum_by, refl, sym, ◌∙◌, ap, subst, arith, append_assoc, length-append, Option, Some, None}
+use Rattle.std.proofs.Common.{◌≡◌, ℕ, ◌+◌, ◌^◌, ◌<◌, ◌≤◌, ◌⊎◌, nat_le, Bool, true, false, List, [], ◌∷◌, ◌++◌, length, refl, sym, ◌∙◌, ap, subst, arith, append_assoc, length-append, Some, None}
 use Rattle.std.specs.List.{last_or}
 use Rattle.std.proofs.lemmas.List.{append-nil}
 use Rattle.std.proofs.lemmas.List.Sums.{sum_by-append}
 use Rattle.std.proofs.lemmas.Bool.Decides.{nat_tests}
-use Rattle.std.proofs.lemmas.Grind.{common_steps}
 use Rattle.units.specs.declared.report.Report.{Report}
 use Rattle.units.specs.declared.report.Container.{Container}
 use Rattle.units.specs.Cut.{first_moment, last_moment, NoSwitchWithin, SwitchWithin, AreSummed, IsRun, IsCut, MayNotJoin, IsWidestCut}
 use Rattle.meter.specs.Meter.{extended, opened}
+use Rattle.meter.proofs.Lasts.{last_or_push}
 
 first-append : (run : List Report) (r : Report) → 0 < length run → first_moment (run ++ r ∷ []) ≡ first_moment run
 first-append [] r l = absurd (omega arith)
@@ -118,3 +118,10 @@ widest_join switches rs (d ∷ front) c r (run, rest, is, first, less, may, othe
   still_not switches run rest r (some_front switches rest front c others) may,
   widest_join switches rest front c r others safe fits,
 )
+
+-- what stays out of the last container, told of the last one
+pub same_last : (switches : ℕ → Bool) (front : List Container) (last : Container) (r : Report) → StaysOut switches last r → (c : Container) → last_or None (front ++ last ∷ []) ≡ Some c → StaysOut switches c r
+same_last switches front last r out c is =
+    let same : Some last ≡ Some c = sym (last_or_push None front last) ∙ is in
+    let one : last ≡ c = cc in
+    subst (λ k. StaysOut switches k r) one out

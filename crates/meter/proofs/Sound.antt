@@ -1,7 +1,6 @@
 -- What a meter keeps stays right with a report more.
-use Rattle.std.proofs.Common.{◌≡◌, ℕ, ◌+◌, ◌-◌, ◌≤◌, List, [], ◌∷◌, ◌++◌, length, map, fold, set, get_or, refl, sym, ◌∙◌, ap, subst, arith, Some}
+use Rattle.std.proofs.Common.{◌≡◌, ℕ, ◌-◌, [], ◌++◌, map, fold, set, get_or, sym, ap, subst, Some}
 use Rattle.std.proofs.Math.Seq.{map-set_same}
-use Rattle.std.proofs.lemmas.List.{length-set, length-append}
 use Rattle.units.specs.declared.report.Report.{Report}
 use Rattle.units.specs.declared.report.Container.{Container}
 use Rattle.meter.specs.Meter.{Contents, groups_of, with_group, last_of, open_of, with_joined, extended, AreNumbered}
@@ -20,3 +19,6 @@ pub own_last : (s : Contents) (g : ℕ) (c : Container) → open_of s g ≡ Some
 own_last s g c is =
     let last = open_last s g c is in
     subst (λ h. last_of s h ≡ Some c) (sym (last_split g s.containers c last).of_group) last
+
+pub own_group : (s : Contents) (g : ℕ) (c : Container) → open_of s g ≡ Some c → c.group ≡ g
+own_group s g c is = (last_split g s.containers c (open_last s g c is)).of_group

@@ -1,5 +1,5 @@
 -- Where no horizon is set and nothing is closed, a report leaves it so.
-use Rattle.std.proofs.Common.{◌≡◌, ◌≢◌, ◌==◌, ℕ, suc, zero, ◌+◌, ◌-◌, ◌<◌, ◌≤◌, ◌⊎◌, inl, inr, Bool, true, false, List, [], ◌∷◌, ◌++◌, length, set, get_or, refl, sym, ◌∙◌, ap, subst, arith, Option, Some, None}
+use Rattle.std.proofs.Common.{◌≡◌, ◌≢◌, ◌==◌, ℕ, suc, zero, ◌+◌, ◌-◌, ◌<◌, ◌⊎◌, inl, inr, Bool, true, false, List, [], ◌∷◌, ◌++◌, length, set, get_or, refl, sym, ◌∙◌, ap, subst, arith, Option, Some, None}
 use Rattle.std.specs.List.{slice_get}
 use Rattle.std.specs.Option.{option_flatten}
 use Rattle.std.proofs.lemmas.List.{length-set}
@@ -11,18 +11,18 @@ use Rattle.meter.specs.Meter.{Contents, open_of, last_of, last_in, close_of, clo
 use Rattle.meter.proofs.Lasts.{LastAt, last_at, last_set, last_read, last_within, last_middle, last_middle_other, last_push, last_push_other}
 use Rattle.meter.proofs.After.{JoinsAt, OpensAt, after_is, open_last, open_unclosed}
 
-get_push_old : {X : Type 0} (xs : List X) (y : X) (i : ℕ) → i < length xs → slice_get (xs ++ y ∷ []) i ≡ slice_get xs i
+pub get_push_old : {X : Type 0} (xs : List X) (y : X) (i : ℕ) → i < length xs → slice_get (xs ++ y ∷ []) i ≡ slice_get xs i
 get_push_old [] y i l = absurd (omega arith)
 get_push_old (x ∷ xs) y zero l = refl
 get_push_old (x ∷ xs) y (suc i) l = get_push_old xs y i (omega arith)
 
-get_push_new : {X : Type 0} (xs : List X) (y : X) (i : ℕ) → i ≡ length xs → slice_get (xs ++ y ∷ []) i ≡ Some y
+pub get_push_new : {X : Type 0} (xs : List X) (y : X) (i : ℕ) → i ≡ length xs → slice_get (xs ++ y ∷ []) i ≡ Some y
 get_push_new [] y zero e = refl
 get_push_new [] y (suc i) e = absurd (omega arith)
 get_push_new (x ∷ xs) y zero e = absurd (omega arith)
 get_push_new (x ∷ xs) y (suc i) e = get_push_new xs y i (omega arith)
 
-get_set_other : {X : Type 0} (xs : List X) (i j : ℕ) (y : X) → i ≢ j → slice_get (set xs i y) j ≡ slice_get xs j
+pub get_set_other : {X : Type 0} (xs : List X) (i j : ℕ) (y : X) → i ≢ j → slice_get (set xs i y) j ≡ slice_get xs j
 get_set_other [] i j y n = refl
 get_set_other (x ∷ xs) zero zero y n = absurd (n refl)
 get_set_other (x ∷ xs) zero (suc j) y n = refl

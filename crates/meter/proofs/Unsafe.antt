@@ -1,12 +1,11 @@
 -- The least unsafe hour is the least.
-use Rattle.std.proofs.Common.{◌≡◌, ◌==◌, ℕ, ◌+◌, ◌*◌, ◌/◌, ◌%◌, ◌<◌, ◌≤◌, ◌&&◌, not, Bool, true, false, cond, nat_lt, nat_le, Option, Some, None, refl, sym, ◌∙◌, ap, arith, eq-eqb}
-use Rattle.std.specs.Option.{option_map, MatchOption}
+use Rattle.std.proofs.Common.{◌≡◌, ℕ, ◌+◌, ◌*◌, ◌/◌, ◌%◌, ◌<◌, ◌≤◌, ◌&&◌, not, Bool, true, false, cond, nat_lt, nat_le, Option, Some, None, refl, sym, ◌∙◌, arith, eq-eqb}
+use Rattle.std.specs.Option.{option_map}
 use Rattle.std.proofs.lemmas.Bool.Decides.{nat_tests}
 use Rattle.std.proofs.lemmas.Bool.{eqb-true}
-use Rattle.std.proofs.lemmas.Grind.{common_steps}
 use Rattle.units.specs.Cut.{whole_hour, SwitchWithin, NoSwitchWithin}
 use Rattle.meter.specs.declared.horizon.Horizon.{Horizon}
-use Rattle.meter.specs.Horizons.{is_before, is_within, is_unsafe, IsNextSwitch, next_hour, hour_from, hour_of_end, least_unsafe, is_at_most, has_unsafe}
+use Rattle.meter.specs.Horizons.{is_within, is_unsafe, IsNextSwitch, next_hour, hour_from, least_unsafe, is_at_most, has_unsafe}
 
 -- nothing is unsafe after the moment
 abbrev pub NoneAfter : Option Horizon → ℕ → Type 0
@@ -114,3 +113,9 @@ unsafe_is_none horizon after until none = by (has_unsafe horizon after until) re
     by : (b : Bool) → has_unsafe horizon after until ≡ b → b ≡ false
     by false e = refl
     by true e = let some = some_unsafe horizon after until e in sym some.3 ∙ none some.0 some.1 some.2
+
+-- a later hour begins in between
+pub hour_inside : (after until : ℕ) → nat_le (until / 3600) (after / 3600) ≡ false → SwitchWithin whole_hour after until
+hour_inside after until apart =
+    let later : after / 3600 < until / 3600 = grind (arith, nat_tests, apart) in
+    (3600 * (until / 3600), omega (arith, later), omega arith, next_whole (until / 3600))

@@ -1,13 +1,11 @@
 -- What a meter keeps beside what came of the session.
-use Rattle.std.specs.Prelude.{◌≡◌, ℕ, ◌+◌, ◌-◌, ◌^◌, ◌<◌, ◌≤◌, ◌==◌, List, [], ◌∷◌, length, map, fold, All, Bool, false, min, nat_lt, if◌then◌else◌, vec_capacity, vec_len, Option, Some}
+use Rattle.std.specs.Prelude.{◌≡◌, ℕ, ◌+◌, ◌-◌, ◌^◌, ◌<◌, ◌≤◌, ◌==◌, List, [], ◌∷◌, length, map, fold, All, false, min, nat_lt, if◌then◌else◌, vec_capacity, vec_len, Some}
 use Rattle.std.specs.List.{AllByRecursion}
 use Rattle.units.specs.declared.report.Container.{Container}
 use Rattle.units.specs.declared.report.Report.{Report}
-use Rattle.meter.specs.declared.close.Close.{Close}
 use Rattle.meter.specs.declared.counts.GroupCount.{GroupCount}
-use Rattle.meter.specs.declared.horizon.Horizon.{Horizon}
 use Rattle.meter.specs.declared.meter.Meter.TheInside.{Inside}
-use Rattle.meter.specs.Meter.{Contents, Metered, group_total, report_total, latest, groups_of, with_group, is_in, last_in, IsSmall, AreNumbered}
+use Rattle.meter.specs.Meter.{Contents, Metered, group_total, report_total, latest, groups_of, with_group, is_in, last_in, AreClosedButOpen, IsSmall, AreNumbered}
 
 -- the group's next number, and the number of its last container
 pub record IsCountOf (containers : List Container) (g : GroupCount) : Type 0 where
@@ -59,5 +57,6 @@ seen m = record {
 pub record IsSound (m : Inside) : Type 0 where
   pub kept : AreKept m.containers.items m.counts.items m.last m.total
   pub closes : length m.closes.items ≡ length m.containers.items
+  pub closed : AreClosedButOpen (contents_of m)
   pub horizons : AreDistinct (map (λ h. h.group) m.horizons.items)
   pub groups : length (groups_of (contents_of m)) ≤ 16

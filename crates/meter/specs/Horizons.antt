@@ -1,6 +1,6 @@
 -- Whole hours at which a rating group's tariff may switch for all that is known (TS 32.291, tariffTimeChange; horizons are this product's own).
-use Rattle.std.specs.Prelude.{◌≡◌, ℕ, ◌+◌, ◌*◌, ◌/◌, ◌<◌, ◌≤◌, ◌&&◌, not, nat_lt, nat_le, Bool, true, false, Option, None, Some, if◌then◌else◌, option_map}
-use Rattle.units.specs.Cut.{whole_hour, SwitchWithin, NoSwitchWithin}
+use Rattle.std.specs.Prelude.{◌≡◌, ℕ, ◌+◌, ◌*◌, ◌/◌, ◌<◌, ◌&&◌, not, nat_lt, nat_le, Bool, true, false, Option, None, Some, if◌then◌else◌, option_map}
+use Rattle.units.specs.Cut.{whole_hour}
 use Rattle.meter.specs.declared.horizon.Horizon.{Horizon}
 
 -- before the end, where there is one
@@ -45,6 +45,7 @@ hour_of_end (Some h) = option_map hour_from h.until
 abbrev pub least_unsafe : Option Horizon → ℕ → Option ℕ
 least_unsafe horizon after = if is_within horizon (next_hour after) then hour_of_end horizon else Some (next_hour after)
 
+-- there is an hour, and it is at most the moment
 abbrev pub is_at_most : Option ℕ → ℕ → Bool
 is_at_most None moment = false
 is_at_most (Some hour) moment = nat_le hour moment

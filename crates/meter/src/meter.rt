@@ -1,8 +1,8 @@
-ghost use Rattle.std.specs.Prelude.{◌≡◌, ◌≢◌, ◌<◌, ◌≤◌, ◌+◌, ◌^◌, ◌==◌, ◌++◌, ◌∷◌, [], ℕ, Bool, List, All, length, OnOk, Ok, Some, false, is_some};
+ghost use Rattle.std.specs.Prelude.{◌≡◌, ◌≢◌, ◌<◌, ◌≤◌, ◌+◌, ◌^◌, ◌==◌, ◌++◌, ◌∷◌, [], ℕ, Bool, List, All, length, OnOk, Ok, Some, None, false, is_some};
 ghost use Rattle.units.specs.Cut.{AreCuts, AreWidestCuts, IsCut, reports_of, containers_of, no_switch, whole_hour};
 ghost use Rattle.units.specs.declared.report.Report.{Report};
 ghost use Rattle.meter.specs.Horizons.{AreForeseen};
-ghost use Rattle.meter.specs.Meter.{nothing_yet, answer_of, expected_of, report_total, open_of, last_of, horizon_of, closed_of, with_joined, with_opened, with_closed, after_report, after_close, after_horizon, groups_of, is_in, HasPlaceFor, IsSmall, AreNumbered, IsFirstUnsafe, IsTaken, IsUndisturbed};
+ghost use Rattle.meter.specs.Meter.{nothing_yet, answer_of, expected_of, report_total, open_of, last_of, horizon_of, closed_of, with_joined, with_opened, with_closed, after_report, after_close, after_horizon, groups_of, is_in, HasPlaceFor, IsSmall, AreNumbered, IsFirstUnsafe, IsTaken, IsUndisturbed, AreClosedButOpen};
 
 use crate::close::Close;
 use crate::container::{is_large, joins, trigger_before};
@@ -38,7 +38,7 @@ impl Model for Meter {
 }
 
 impl Meter {
-    /// A session without reports.
+    /// A session without reports and horizons; it takes no memory.
     pub fn new(alloc: Global) -> Meter
         ensures { result.contents ≡ nothing_yet }
     {
@@ -52,7 +52,8 @@ impl Meter {
         }
     }
 
-    /// Makes room for one report, or for a horizon of each group, and for closes.
+    /// Makes room: then one report, or one horizon of each of at most 16 groups, and closes after these or without them,
+    /// take no memory. Where memory is wanting, nothing came of it.
     pub fn make_room(&mut self, _alloc: Global) -> Result<(), OutOfMemory>
         ensures room { OnOk result (0 < self.new.room) }
         ensures same { self.new.contents ≡ self.old.contents }
@@ -66,19 +67,21 @@ impl Meter {
         Ok(())
     }
 
-    /// The containers, in the order of their numbers.
+    /// The containers in the order of their numbers, which run from 1 over all groups (localSequenceNumber of TS 32.291);
+    /// at most 2^20, as many as there are reports at most. Each is closed but the open one of its group.
     pub fn containers(&self) -> &[Container]
         ensures value { result.now ≡ self.now.contents.containers }
         ensures few { length result.now ≤ 2 ^ 20 }
         ensures total { report_total result.now ≤ 2 ^ 20 }
         ensures numbered { AreNumbered 1 result.now }
         ensures small { All IsSmall result.now }
+        ensures closed { AreClosedButOpen self.now.contents }
     {
         let _total = self.total;
         self.containers.as_slice()
     }
 
-    /// The number that the group's next report has.
+    /// The number that the group's next report has, from 1 (this product's own).
     pub fn expected(&self, group: u32) -> u32
         ensures { result ≡ expected_of self.now.contents group }
     {
@@ -165,6 +168,7 @@ impl Meter {
     fn open(&mut self, report: &Report)
         requires new { answer_of self.old.contents report.now ≡ Ok Seen.New }
         requires room { 0 < self.old.room }
+        requires none { open_of self.old.contents report.now.group ≡ None }
         ensures value { self.new.contents ≡ with_opened self.old.contents report.now }
         ensures counted { report_total self.new.contents.containers ≡ report_total self.old.contents.containers + 1 }
     {
@@ -184,6 +188,7 @@ impl Meter {
     fn shut(&mut self, container: &Container, trigger: TriggerType, moment: Moment)
         requires { last_of self.old.contents container.now.group ≡ Some container.now }
         ensures value { self.new.contents ≡ with_closed self.old.contents container.now trigger moment }
+        ensures none { open_of self.new.contents container.now.group ≡ None }
         ensures room { self.new.room ≡ self.old.room }
     {
         self.closes[(container.lsn - 1) as usize] = Some(Close { trigger, moment });
@@ -212,9 +217,11 @@ impl Meter {
         }
     }
 
-    /// Takes the group's next report: it joins the group's open container, unless an unsafe hour lies between or the
-    /// seconds would pass 4294967295; then that container is closed at the report's moment, and the report opens the
-    /// next. An unsafe hour is a whole hour that is not strictly within the group's horizon. It needs the room.
+    /// Takes the group's next report (TS 32.255, 5.2.1). It joins the group's open container, unless an unsafe hour lies
+    /// after that container's last moment and not after the report's, or the seconds would pass 4294967295. Then that
+    /// container is closed at the report's moment, by TARIFF_TIME_CHANGE where there is an unsafe hour, else by
+    /// TIME_LIMIT, and the report opens the next one. An unsafe hour is a whole hour that is not strictly within the
+    /// group's horizon. It needs the room of `make_room`, takes no memory, and costs the same whatever came before.
     pub fn report(&mut self, report: Report) -> Result<Seen, MeterRefusal>
         requires { 0 < self.old.room }
         ensures answer { result ≡ answer_of self.old.contents report }
@@ -222,6 +229,7 @@ impl Meter {
         ensures same { result ≢ Ok Seen.New → self.new ≡ self.old }
         ensures few { result ≡ Ok Seen.New → report_total self.old.contents.containers < 2 ^ 20 }
         ensures counted { result ≡ Ok Seen.New → report_total self.new.contents.containers ≡ report_total self.old.contents.containers + 1 }
+        ensures horizons { self.new.contents.horizons ≡ self.old.contents.horizons }
 
         // It joins exactly where the rule for joining allows it.
         ensures rule { result ≡ Ok Seen.New → IsTaken self.old.contents report self.new.contents }
@@ -255,10 +263,13 @@ impl Meter {
         }
     }
 
-    /// Closes the group's open container; `false` exactly where it has none.
+    /// Closes the group's open container, with what closed it and when; `false` exactly where it has none. It takes no
+    /// memory.
     pub fn close(&mut self, group: u32, trigger: TriggerType, moment: Moment) -> bool
         ensures answer { result ≡ is_some (open_of self.old.contents group) }
         ensures value { self.new.contents ≡ after_close self.old.contents group trigger moment }
+        ensures containers { self.new.contents.containers ≡ self.old.contents.containers }
+        ensures horizons { self.new.contents.horizons ≡ self.old.contents.horizons }
         ensures room { self.new.room ≡ self.old.room }
         ensures same { result ≡ false → self.new ≡ self.old }
     {
@@ -271,8 +282,9 @@ impl Meter {
         }
     }
 
-    /// Sets the group's horizon: from then on its tariff is known not to switch strictly between `from` and `until`, or
-    /// after `from` where there is no end. It needs the room.
+    /// Sets the group's horizon, in place of the one before: its tariff is known not to switch strictly between `from` and
+    /// `until`, or after `from` where there is no end (tariffTimeChange of TS 32.291). It needs the room of `make_room`
+    /// and takes no memory. The group had a report or a horizon before, or fewer than 16 groups had one.
     pub fn horizon(&mut self, group: u32, from: Moment, until: Option<Moment>)
         requires room { 0 < self.old.room }
         requires place { HasPlaceFor self.old.contents group }
@@ -282,7 +294,8 @@ impl Meter {
         set_horizon(&mut self.horizons, Horizon { group, from, until });
     }
 
-    /// The container with this number as it was closed, where it was.
+    /// The container with this number, with what closed it and when; `None` exactly where there is no such container, or
+    /// it is open (this product's own).
     pub fn is_closed(&self, lsn: u32) -> Option<Closed>
         ensures { result ≡ closed_of self.now.contents lsn }
     {
@@ -303,7 +316,7 @@ impl Meter {
     }
 
     /// The least unsafe hour after the last moment of the group's open container; `None` exactly where it has none, or
-    /// that hour is past the range of moments.
+    /// that hour is past the range of moments (this product's own).
     pub fn first_unsafe(&self, group: u32) -> Option<Moment>
         ensures { IsFirstUnsafe self.now.contents group result }
     {

@@ -1,6 +1,5 @@
-use Rattle.std.proofs.Common.{arith, ap, sym, ◌∙◌}
+use Rattle.std.proofs.Common.{sym, ◌∙◌}
 use Rattle.meter.specs.Caches.{contents_of}
-use Rattle.meter.specs.Meter.{horizon_of}
 use Rattle.meter.proofs.Firsts.{first_is}
 use Rattle.meter.proofs.meter.Meter.first_unsafe.Goals as goal
 

@@ -1,4 +1,4 @@
-use Rattle.std.proofs.Common.{◌∙◌, sym, ap, ◌+◌, arith}
+use Rattle.std.proofs.Common.{arith}
 use Rattle.meter.specs.Caches.{contents_of}
 use Rattle.meter.proofs.Places.{group_number}
 use Rattle.meter.proofs.meter.Meter.group_count.Goals as goal

@@ -1,6 +1,5 @@
-use Rattle.std.proofs.Common.{arith, ap, sym, ◌∙◌, ◌<◌, ◌≤◌, ◌≡◌, length, subst, vec_len, vec_capacity}
-use Rattle.std.specs.Prelude.{map}
-use Rattle.meter.specs.Caches.{contents_of, AreDistinct}
+use Rattle.std.proofs.Common.{arith, ◌<◌, length, vec_capacity}
+use Rattle.meter.specs.Caches.{contents_of}
 use Rattle.meter.proofs.Places.{horizon_place, places_horizon, distinct_horizons, horizons_fit}
 use Rattle.meter.proofs.meter.Meter.horizon.Goals as goal
 
@@ -20,6 +19,7 @@ invariant_of-self c =
     record {
       kept = c.self.invariant.kept;
       closes = c.self.invariant.closes;
+      closed = c.self.invariant.closed;
       horizons = rw c.set_horizon.ensures.value apart;
       groups = rw c.set_horizon.ensures.value more;
     }

@@ -1,4 +1,4 @@
-use Rattle.std.proofs.Common.{arith, ap, sym, ◌∙◌, ◌<◌, ◌≤◌, ◌≡◌, ◌-◌, length}
+use Rattle.std.proofs.Common.{arith, ap, sym, ◌∙◌, ◌<◌, ◌-◌, length}
 use Rattle.meter.specs.Caches.{contents_of}
 use Rattle.meter.specs.Meter.{closed_of}
 use Rattle.meter.proofs.Closes.{closed_zero, closed_past, closed_not, closed_some}

@@ -1,5 +1,4 @@
-use Rattle.std.proofs.Common.{sym, ◌∙◌, ap, ◌+◌, arith, ◌≡◌, length}
-use Rattle.std.specs.Prelude.{◌==◌, vec_len}
+use Rattle.std.proofs.Common.{sym, ◌∙◌, arith}
 use Rattle.meter.specs.Caches.{contents_of}
 use Rattle.meter.proofs.Groups.{place_read}
 use Rattle.meter.proofs.Opens.{reads, no_last, none_open, reads_closed, reads_open}
