@@ -1,5 +1,5 @@
 -- A container that is not closed is the open one of its group, whatever is done.
-use Rattle.std.proofs.Common.{◌≡◌, ◌≢◌, ◌==◌, ℕ, suc, zero, ◌+◌, ◌-◌, ◌<◌, ◌≤◌, nat_lt, Bool, true, false, List, [], ◌∷◌, ◌++◌, length, set, refl, sym, ◌∙◌, ap, subst, arith, Option, Some, None}
+use Rattle.std.proofs.Common.{◌≡◌, ◌≢◌, ◌==◌, ℕ, suc, zero, ◌+◌, ◌-◌, ◌<◌, ◌≤◌, nat_lt, ◌⊎◌, inl, inr, Bool, true, false, List, [], ◌∷◌, ◌++◌, length, set, refl, sym, ◌∙◌, ap, subst, arith, Option, Some, None}
 use Rattle.std.specs.List.{slice_get}
 use Rattle.std.specs.Option.{option_flatten}
 use Rattle.std.proofs.lemmas.Bool.{eqb-true, eqb-false}
@@ -9,10 +9,10 @@ use Rattle.units.specs.declared.report.Report.{Report}
 use Rattle.units.specs.declared.report.Container.{Container}
 use Rattle.units.specs.declared.trigger.TriggerType.{TriggerType}
 use Rattle.meter.specs.declared.close.Close.{Close}
-use Rattle.meter.specs.Meter.{Contents, open_of, last_of, last_in, close_of, close_of_last, unless_closed, extended, opened, with_joined, with_closed, with_opened, AreNumbered, AreClosedButOpen}
+use Rattle.meter.specs.Meter.{Contents, open_of, last_of, last_in, close_of, close_of_last, unless_closed, extended, opened, with_joined, with_closed, with_opened, AreNumbered, AreClosedButOpen, IsOpenUntil, after_report}
 use Rattle.meter.proofs.Lasts.{LastAt, last_at, last_set, last_within, last_middle, last_middle_other, last_push, last_push_other}
-use Rattle.meter.proofs.After.{open_last}
-use Rattle.meter.proofs.Undisturbed.{get_push_old, get_push_new, get_set_other}
+use Rattle.meter.proofs.After.{JoinsAt, OpensAt, after_is, open_last, open_unclosed}
+use Rattle.meter.proofs.Undisturbed.{get_push_old, get_push_new, get_set_other, stays_open, other_number, closes_long}
 
 get_set_same : {X : Type 0} (xs : List X) (i : ℕ) (y : X) → i < length xs → slice_get (set xs i y) i ≡ Some y
 get_set_same [] i y l = absurd (omega arith)
@@ -115,3 +115,30 @@ closed_shut s g c t m numbered long is old i d there none =
 pub none_after_shut : (s : Contents) (g : ℕ) (c : Container) (t : TriggerType) (m : ℕ) → AreNumbered 1 s.containers → length s.closes ≡ length s.containers → last_of s g ≡ Some c → open_of (with_closed s c t m) g ≡ None
 none_after_shut s g c t m numbered long is =
     ap (λ o. unless_closed o (close_of_last (with_closed s c t m) o)) is ∙ ap (unless_closed (Some c)) (shut_is s g c t m numbered long is)
+
+-- after a close and a report
+pub shut_others : (s : Contents) (g h : ℕ) (c : Container) (t : TriggerType) (m : ℕ) → AreNumbered 1 s.containers → last_of s g ≡ Some c → h ≢ g → open_of (with_closed s c t m) h ≡ open_of s h
+shut_others s g h c t m numbered is apart =
+    stays_open s (with_closed s c t m) h refl (λ d last. ap option_flatten (get_set_other s.closes (c.lsn - 1) (d.lsn - 1) (Some (record { trigger = t; moment = m })) (other_number s g h c d numbered is last (λ e. apart (sym e)))))
+
+pub open_after : (s : Contents) (r : Report) → AreNumbered 1 s.containers → length s.closes ≡ length s.containers → IsOpenUntil (after_report s r) r.group r.moment
+open_after s r numbered long = by (after_is s r)
+  where
+    by : JoinsAt s r ⊎ OpensAt s r → IsOpenUntil (after_report s r) r.group r.moment
+    by (inl j) =
+        let c : Container = j.container in
+        let at : LastAt r.group s.containers c = last_at r.group s.containers c numbered (open_last s r.group c j.is_open) in
+        record {
+          container = extended c r;
+          is_open = ap (λ t. open_of t r.group) j.after ∙ ap (open_of (with_joined s c r)) (sym at.split.of_group) ∙ joined_same s r c at (open_unclosed s r.group c j.is_open);
+          last = refl;
+        }
+    by (inr o) =
+        let x : Container = opened (length s.containers + 1) r in
+        let t : Contents = with_opened (record s { closes = o.closes }) r in
+        let place : x.lsn - 1 ≡ length o.closes = let same = closes_long s r o in omega (arith, same, long) in
+        record {
+          container = x;
+          is_open = ap (λ u. open_of u r.group) o.after ∙ is_open t r.group x (last_push r.group s.containers x refl) (ap option_flatten (get_push_new o.closes None (x.lsn - 1) place));
+          last = refl;
+        }

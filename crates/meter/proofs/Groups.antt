@@ -1,6 +1,6 @@
 -- Groups: which there are, and what is counted of each.
 use Rattle.std.proofs.Common.{◌≡◌, ◌≢◌, ◌==◌, ℕ, suc, zero, ◌+◌, ◌<◌, ◌||◌, Bool, true, false, cond, List, [], ◌∷◌, ◌++◌, length, map, fold, get_or, set, refl, sym, ◌∙◌, ap, arith, Some, None, is_some, eq-eqb}
-use Rattle.std.specs.List.{list_any, position, AllByRecursion}
+use Rattle.std.specs.List.{find, list_any, position, AllByRecursion}
 use Rattle.std.proofs.lemmas.Bool.Decides.{nat_tests}
 use Rattle.std.proofs.lemmas.Bool.{eqb-true}
 use Rattle.std.proofs.lemmas.List.Folds.{list_any-append}
@@ -146,3 +146,27 @@ pub place_read : (g : ℕ) (ks : List GroupCount) (i : ℕ) (k : GroupCount) →
 place_read g ks i k at is =
     let here = position-Some (λ (h : GroupCount). h.group == g) ks i k at in
     (here.0, ap (λ (h : GroupCount). h.group) is ∙ eqb-true (get_or ks i k).group g here.1)
+
+-- the group's horizon once it is set, and those of other groups
+pub horizon_is : (hs : List Horizon) (h : Horizon) → find (λ k. k.group == h.group) (with_horizon hs h) ≡ Some h
+horizon_is [] h = rw (eq-eqb h.group h.group refl) refl
+horizon_is (k ∷ ks) h = by (k.group == h.group) refl (horizon_is ks h)
+  where
+    by : (b : Bool) → (k.group == h.group) ≡ b → find (λ j. j.group == h.group) (with_horizon ks h) ≡ Some h → find (λ j. j.group == h.group) (cond b (h ∷ ks) (k ∷ with_horizon ks h)) ≡ Some h
+    by true e more = rw (eq-eqb h.group h.group refl) refl
+    by false e more = rw e more
+
+pub horizon_other : (hs : List Horizon) (h : Horizon) (g : ℕ) → g ≢ h.group → find (λ k. k.group == g) (with_horizon hs h) ≡ find (λ k. k.group == g) hs
+horizon_other [] h g n = let away : (h.group == g) ≡ false = grind (arith, nat_tests) in rw away refl
+horizon_other (k ∷ ks) h g n = by (k.group == h.group) refl (horizon_other ks h g n)
+  where
+    by : (b : Bool) → (k.group == h.group) ≡ b → find (λ j. j.group == g) (with_horizon ks h) ≡ find (λ j. j.group == g) ks → find (λ j. j.group == g) (cond b (h ∷ ks) (k ∷ with_horizon ks h)) ≡ find (λ j. j.group == g) (k ∷ ks)
+    by true e more =
+        let away : (h.group == g) ≡ false = grind (arith, nat_tests) in
+        let gone : (k.group == g) ≡ false = ap (λ j. j == g) (eqb-true k.group h.group e) ∙ away in
+        rw (away, gone) refl
+    by false e more = at (k.group == g)
+      where
+        at : (b : Bool) → cond b (Some k) (find (λ j. j.group == g) (with_horizon ks h)) ≡ cond b (Some k) (find (λ j. j.group == g) ks)
+        at true = refl
+        at false = more

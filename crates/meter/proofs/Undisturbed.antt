@@ -29,16 +29,20 @@ get_set_other (x ∷ xs) zero (suc j) y n = refl
 get_set_other (x ∷ xs) (suc i) zero y n = refl
 get_set_other (x ∷ xs) (suc i) (suc j) y n = get_set_other xs i j y (λ e. n (ap suc e))
 
+-- an open container stays, where the last one and its close do
+pub stays_open : (s t : Contents) (g : ℕ) → last_of t g ≡ last_of s g → ((c : Container) → last_of s g ≡ Some c → close_of t c.lsn ≡ close_of s c.lsn) → open_of t g ≡ open_of s g
+stays_open s t g same closes = ap (λ o. unless_closed o (close_of_last t o)) same ∙ ap (unless_closed (last_of s g)) (by (last_of s g) refl)
+  where
+    by : (o : Option Container) → last_of s g ≡ o → close_of_last t o ≡ close_of_last s o
+    by None e = refl
+    by (Some c) e = closes c e
+
 -- the group's last container is open
 new_open : (t : Contents) (g : ℕ) (c : Container) → last_of t g ≡ Some c → close_of t c.lsn ≡ None → open_of t g ≡ last_of t g
 new_open t g c is none = ap (λ o. unless_closed o (close_of_last t o)) is ∙ ap (unless_closed (Some c)) none ∙ sym is
 
 same_open : (s t : Contents) (g : ℕ) → last_of t g ≡ last_of s g → ((c : Container) → last_of s g ≡ Some c → close_of t c.lsn ≡ close_of s c.lsn) → open_of s g ≡ last_of s g → open_of t g ≡ last_of t g
-same_open s t g same closes old = ap (λ o. unless_closed o (close_of_last t o)) same ∙ ap (unless_closed (last_of s g)) (by (last_of s g) refl) ∙ old ∙ sym same
-  where
-    by : (o : Option Container) → last_of s g ≡ o → close_of_last t o ≡ close_of_last s o
-    by None e = refl
-    by (Some c) e = closes c e
+same_open s t g same closes old = stays_open s t g same closes ∙ old ∙ sym same
 
 joined_open : (s : Contents) (r : Report) (g : ℕ) (c : Container) → LastAt r.group s.containers c → open_of s r.group ≡ Some c → open_of s g ≡ last_of s g → (b : Bool) → (r.group == g) ≡ b → open_of (with_joined s c r) g ≡ last_of (with_joined s c r) g
 joined_open s r g c at is old true e =
@@ -57,7 +61,7 @@ joined_open s r g c at is old false e =
     same_open s (with_joined s c r) g last (λ d h. refl) old
 
 -- the closes before the next container is opened
-closes_long : (s : Contents) (r : Report) (o : OpensAt s r) → length o.closes ≡ length s.closes
+pub closes_long : (s : Contents) (r : Report) (o : OpensAt s r) → length o.closes ≡ length s.closes
 closes_long s r o = by (open_of s r.group) refl
   where
     by : (k : Option Container) → open_of s r.group ≡ k → length o.closes ≡ length s.closes
@@ -65,7 +69,7 @@ closes_long s r o = by (open_of s r.group) refl
     by (Some c) e = let one = o.one_closed c e in ap length one.1 ∙ length-set s.closes (c.lsn - 1) (Some one.0)
 
 -- two last containers of different groups have different numbers
-other_number : (s : Contents) (g h : ℕ) (c d : Container) → AreNumbered 1 s.containers → last_of s g ≡ Some c → last_of s h ≡ Some d → g ≢ h → c.lsn - 1 ≢ d.lsn - 1
+pub other_number : (s : Contents) (g h : ℕ) (c d : Container) → AreNumbered 1 s.containers → last_of s g ≡ Some c → last_of s h ≡ Some d → g ≢ h → c.lsn - 1 ≢ d.lsn - 1
 other_number s g h c d numbered is_c is_d apart e =
     let at : LastAt g s.containers c = last_at g s.containers c numbered is_c in
     let on : LastAt h s.containers d = last_at h s.containers d numbered is_d in
@@ -114,3 +118,30 @@ after_undisturbed s r numbered long free = by (after_is s r)
       no_horizon = free.no_horizon;
       all_open = λ g. opened_open s r g o numbered long (free.all_open g) (r.group == g) refl;
     })
+
+-- the open containers of other groups are as before a report
+joined_others : (s : Contents) (r : Report) (g : ℕ) (c : Container) → LastAt r.group s.containers c → r.group ≢ g → open_of (with_joined s c r) g ≡ open_of s g
+joined_others s r g c at away =
+    let x : Container = extended c r in
+    let apart : c.group ≢ g = λ k. away (sym at.split.of_group ∙ k) in
+    let now : set s.containers (c.lsn - 1) x ≡ at.split.front ++ x ∷ at.split.back = last_set r.group s.containers c x at in
+    stays_open s (with_joined s c r) g (ap (λ l. last_in g l) now ∙ last_middle_other g at.split.front x c at.split.back apart apart ∙ ap (λ l. last_in g l) (sym at.split.is)) (λ d h. refl)
+
+opened_others : (s : Contents) (r : Report) (g : ℕ) (o : OpensAt s r) → AreNumbered 1 s.containers → length s.closes ≡ length s.containers → r.group ≢ g → open_of (next_of s o.closes r) g ≡ open_of s g
+opened_others s r g o numbered long apart =
+    let x : Container = opened (length s.containers + 1) r in
+    stays_open s (next_of s o.closes r) g (last_push_other g s.containers x apart)
+    (λ c is.
+    let inside = last_within g s.containers c (last_at g s.containers c numbered is) in
+    let within : c.lsn - 1 < length o.closes = let same = closes_long s r o in omega (arith, same, long, inside) in
+    ap option_flatten (get_push_old o.closes None (c.lsn - 1) within ∙ closes_other s r g o c numbered apart is))
+
+pub after_others : (s : Contents) (r : Report) (g : ℕ) → AreNumbered 1 s.containers → length s.closes ≡ length s.containers → g ≢ r.group → open_of (after_report s r) g ≡ open_of s g
+after_others s r g numbered long apart = by (after_is s r)
+  where
+    away : r.group ≢ g
+    away e = apart (sym e)
+
+    by : JoinsAt s r ⊎ OpensAt s r → open_of (after_report s r) g ≡ open_of s g
+    by (inl j) = ap (λ t. open_of t g) j.after ∙ joined_others s r g j.container (last_at r.group s.containers j.container numbered (open_last s r.group j.container j.is_open)) away
+    by (inr o) = ap (λ t. open_of t g) o.after ∙ opened_others s r g o numbered long away

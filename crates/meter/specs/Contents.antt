@@ -53,6 +53,12 @@ close_of_last contents (Some c) = close_of contents c.lsn
 abbrev pub open_of : Contents → ℕ → Option Container
 open_of contents group = unless_closed (last_of contents group) (close_of_last contents (last_of contents group))
 
+-- the group has an open container, whose last moment is this
+pub record IsOpenUntil (s : Contents) (group moment : ℕ) : Type 0 where
+  pub container : Container
+  pub is_open : open_of s group ≡ Some container
+  pub last : container.last ≡ moment
+
 -- a container that is not closed is the open one of its group
 abbrev pub AreClosedButOpen : Contents → Type 0
 AreClosedButOpen s = (at : ℕ) → (c : Container) → slice_get s.containers at ≡ Some c → close_of s c.lsn ≡ None → open_of s c.group ≡ Some c

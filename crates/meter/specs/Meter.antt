@@ -8,7 +8,7 @@ use Rattle.units.specs.declared.trigger.Closed.{Closed}
 use Rattle.meter.specs.declared.close.Close.{Close}
 use Rattle.meter.specs.declared.horizon.Horizon.{Horizon}
 use Rattle.meter.specs.Horizons.{is_unsafe, IsNextSwitch}
-pub use Rattle.meter.specs.Contents.{Contents, Metered, nothing_yet, horizon_of, close_of, last_in, last_of, unless_closed, close_of_last, open_of, AreClosedButOpen, AreNumbered, IsSmall, report_total, IsUndisturbed}
+pub use Rattle.meter.specs.Contents.{Contents, Metered, nothing_yet, horizon_of, close_of, last_in, last_of, unless_closed, close_of_last, open_of, IsOpenUntil, AreClosedButOpen, AreNumbered, IsSmall, report_total, IsUndisturbed}
 pub use Rattle.meter.specs.Admission.{group_total, expected_of, latest, is_in, with_group, groups_of, HasPlaceFor, is_too_large, answer_of}
 pub use Rattle.meter.specs.Joining.{may_join, trigger_of, extended, opened, with_joined, with_closed, with_opened, report_taken, after_report, IsTaken}
 

@@ -2,7 +2,7 @@ ghost use Rattle.std.specs.Prelude.{◌≡◌, ◌≢◌, ◌<◌, ◌≤◌, �
 ghost use Rattle.units.specs.Cut.{AreCuts, AreWidestCuts, IsCut, reports_of, containers_of, no_switch, whole_hour};
 ghost use Rattle.units.specs.declared.report.Report.{Report};
 ghost use Rattle.meter.specs.Horizons.{AreForeseen};
-ghost use Rattle.meter.specs.Meter.{nothing_yet, answer_of, expected_of, report_total, open_of, last_of, horizon_of, closed_of, with_joined, with_opened, with_closed, after_report, after_close, after_horizon, groups_of, is_in, HasPlaceFor, IsSmall, AreNumbered, IsFirstUnsafe, IsTaken, IsUndisturbed, AreClosedButOpen};
+ghost use Rattle.meter.specs.Meter.{nothing_yet, answer_of, expected_of, report_total, open_of, last_of, horizon_of, closed_of, with_joined, with_opened, with_closed, after_report, after_close, after_horizon, groups_of, is_in, HasPlaceFor, IsSmall, AreNumbered, IsFirstUnsafe, IsTaken, IsUndisturbed, AreClosedButOpen, IsOpenUntil};
 
 use crate::close::Close;
 use crate::container::{is_large, joins, trigger_before};
@@ -91,8 +91,8 @@ impl Meter {
         }
     }
 
-    // The group's open container.
-    fn open_container(&self, group: u32) -> Option<Container>
+    /// The group's open container (this product's own).
+    pub fn open_container(&self, group: u32) -> Option<Container>
         ensures { result ≡ open_of self.now.contents group }
     {
         let at = place_of(&self.counts, group)?;
@@ -189,6 +189,7 @@ impl Meter {
         requires { last_of self.old.contents container.now.group ≡ Some container.now }
         ensures value { self.new.contents ≡ with_closed self.old.contents container.now trigger moment }
         ensures none { open_of self.new.contents container.now.group ≡ None }
+        ensures others { (other : ℕ) → other ≢ container.now.group → open_of self.new.contents other ≡ open_of self.old.contents other }
         ensures room { self.new.room ≡ self.old.room }
     {
         self.closes[(container.lsn - 1) as usize] = Some(Close { trigger, moment });
@@ -231,6 +232,10 @@ impl Meter {
         ensures counted { result ≡ Ok Seen.New → report_total self.new.contents.containers ≡ report_total self.old.contents.containers + 1 }
         ensures horizons { self.new.contents.horizons ≡ self.old.contents.horizons }
 
+        // The group's open container ends with it, and those of other groups are as before.
+        ensures open { result ≡ Ok Seen.New → IsOpenUntil self.new.contents report.group report.moment }
+        ensures others { (other : ℕ) → other ≢ report.group → open_of self.new.contents other ≡ open_of self.old.contents other }
+
         // It joins exactly where the rule for joining allows it.
         ensures rule { result ≡ Ok Seen.New → IsTaken self.old.contents report self.new.contents }
 
@@ -268,6 +273,8 @@ impl Meter {
     pub fn close(&mut self, group: u32, trigger: TriggerType, moment: Moment) -> bool
         ensures answer { result ≡ is_some (open_of self.old.contents group) }
         ensures value { self.new.contents ≡ after_close self.old.contents group trigger moment }
+        ensures none { open_of self.new.contents group ≡ None }
+        ensures others { (other : ℕ) → other ≢ group → open_of self.new.contents other ≡ open_of self.old.contents other }
         ensures containers { self.new.contents.containers ≡ self.old.contents.containers }
         ensures horizons { self.new.contents.horizons ≡ self.old.contents.horizons }
         ensures room { self.new.room ≡ self.old.room }
@@ -289,6 +296,8 @@ impl Meter {
         requires room { 0 < self.old.room }
         requires place { HasPlaceFor self.old.contents group }
         ensures value { self.new.contents ≡ after_horizon self.old.contents (record { group = group; from = from; until = until }) }
+        ensures own { horizon_of self.new.contents group ≡ Some (record { group = group; from = from; until = until }) }
+        ensures others { (other : ℕ) → other ≢ group → horizon_of self.new.contents other ≡ horizon_of self.old.contents other }
         ensures room { self.new.room ≡ self.old.room }
     {
         set_horizon(&mut self.horizons, Horizon { group, from, until });

@@ -52,6 +52,7 @@ fn cuts_at_the_end_of_the_horizon(rt: HostRuntime) -> Result<(), Fail> {
     assert!(rt; is_new(&mut meter, alloc, usage(10, 1, 1767324000))?);
     assert!(rt; is_new(&mut meter, alloc, usage(10, 2, 1767340740))?);
     assert_eq!(rt; meter.first_unsafe(10), Some(at(1767340800)));
+    assert!(rt; meter.open_container(10) == meter.containers().first().copied());
     assert!(rt; is_new(&mut meter, alloc, usage(10, 3, 1767340800))?);
     assert_eq!(rt; meter.expected(10), 4);
     if let [one, two] = meter.containers() {

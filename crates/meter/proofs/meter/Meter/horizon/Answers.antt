@@ -1,6 +1,7 @@
 use Rattle.std.proofs.Common.{arith, ◌<◌, length, vec_capacity}
 use Rattle.meter.specs.Caches.{contents_of}
 use Rattle.meter.proofs.Places.{horizon_place, places_horizon, distinct_horizons, horizons_fit}
+use Rattle.meter.proofs.Groups.{horizon_is, horizon_other}
 use Rattle.meter.proofs.meter.Meter.horizon.Goals as goal
 
 pub set_horizon-requires : goal.set_horizon-requires
@@ -23,3 +24,10 @@ invariant_of-self c =
       horizons = rw c.set_horizon.ensures.value apart;
       groups = rw c.set_horizon.ensures.value more;
     }
+
+pub returns-clause-own : goal.returns-clause-own
+returns-clause-own c = rw c.set_horizon.ensures.value (horizon_is c.self.inside.horizons.items (record { group = c.args.group; from = c.args.from; until = c.args.until }))
+
+pub returns-clause-others : goal.returns-clause-others
+returns-clause-others c other apart =
+    rw (c.set_horizon.ensures.value, ← c.self.view_is) (horizon_other c.self.inside.horizons.items (record { group = c.args.group; from = c.args.from; until = c.args.until }) other apart)

@@ -2,7 +2,8 @@ use Rattle.std.proofs.Common.{sym, ◌∙◌, ap, Ok}
 use Rattle.meter.proofs.Admitted.{new_is}
 use Rattle.meter.proofs.After.{taken_is}
 use Rattle.meter.proofs.Cuts.{plain_cuts, all_cuts, group_cut, widest_cuts}
-use Rattle.meter.proofs.Undisturbed.{after_undisturbed}
+use Rattle.meter.proofs.Undisturbed.{after_undisturbed, after_others}
+use Rattle.meter.proofs.Earlier.{open_after}
 use Rattle.meter.proofs.meter.Meter.report.Goals as goal
 
 pub returns-in-New-clause-rule : goal.returns-in-New-clause-rule
@@ -24,3 +25,9 @@ returns-in-New-clause-widest c reports free cuts new =
 
 pub returns-in-New-clause-undisturbed : goal.returns-in-New-clause-undisturbed
 returns-in-New-clause-undisturbed c free new = rw c.take.ensures.value (after_undisturbed c.args.self.now.contents c.args.report c.take.ensures.numbered c.take.ensures.closes free)
+
+pub returns-in-New-clause-open : goal.returns-in-New-clause-open
+returns-in-New-clause-open c new = rw c.take.ensures.value (open_after c.args.self.now.contents c.args.report c.take.ensures.numbered c.take.ensures.closes)
+
+pub returns-in-New-clause-others : goal.returns-in-New-clause-others
+returns-in-New-clause-others c other apart = rw c.take.ensures.value (after_others c.args.self.now.contents c.args.report other c.take.ensures.numbered c.take.ensures.closes apart)

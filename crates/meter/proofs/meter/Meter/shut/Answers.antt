@@ -1,7 +1,7 @@
 use Rattle.std.proofs.Common.{arith}
 use Rattle.meter.specs.Caches.{contents_of}
 use Rattle.std.proofs.lemmas.List.{length-set}
-use Rattle.meter.proofs.Earlier.{closed_shut, none_after_shut}
+use Rattle.meter.proofs.Earlier.{closed_shut, none_after_shut, shut_others}
 use Rattle.meter.proofs.Lasts.{last_at, last_within}
 use Rattle.meter.proofs.meter.Meter.shut.Goals as goal
 
@@ -35,3 +35,9 @@ returns-clause-none c =
     let s = contents_of c.self.inside in
     let last = rw (← c.self.view_is) at c.requires in
     none_after_shut s c.args.container.now.group c.args.container.now c.args.trigger c.args.moment c.self.invariant.kept.numbered c.self.invariant.closes last
+
+pub returns-clause-others : goal.returns-clause-others
+returns-clause-others c other apart =
+    let s = contents_of c.self.inside in
+    let last = rw (← c.self.view_is) at c.requires in
+    rw (← c.self.view_is) (shut_others s c.args.container.now.group other c.args.container.now c.args.trigger c.args.moment c.self.invariant.kept.numbered last apart)
