@@ -77,7 +77,6 @@ impl Meter {
         ensures small { All IsSmall result.now }
         ensures closed { AreClosedButOpen self.now.contents }
     {
-        let _total = self.total;
         self.containers.as_slice()
     }
 
@@ -222,7 +221,9 @@ impl Meter {
     /// after that container's last moment and not after the report's, or the seconds would pass 4294967295. Then that
     /// container is closed at the report's moment, by TARIFF_TIME_CHANGE where there is an unsafe hour, else by
     /// TIME_LIMIT, and the report opens the next one. An unsafe hour is a whole hour that is not strictly within the
-    /// group's horizon. It needs the room of `make_room`, takes no memory, and costs the same whatever came before.
+    /// group's horizon. `Known` is a number from 1 that is below the expected one; refused are, in this order, OutOfStep,
+    /// TooLarge, MomentBack, TooManyReports and TooManyGroups, and nothing is changed then. It needs the room of
+    /// `make_room`, takes no memory, and costs the same whatever came before.
     pub fn report(&mut self, report: Report) -> Result<Seen, MeterRefusal>
         requires { 0 < self.old.room }
         ensures answer { result ≡ answer_of self.old.contents report }

@@ -111,11 +111,14 @@ fn joins_within_horizons_alone(rt: HostRuntime) -> Result<(), Fail> {
     Ok(())
 }
 
-// What is refused, in order; a report whose number was counted is known whatever it holds.
+// What is refused, in order; a report whose number was counted is known whatever it holds, and a group that has a
+// horizon is one of the 16.
 #[test]
 fn refuses_in_order(rt: HostRuntime) -> Result<(), Fail> {
     let alloc = rt.alloc();
     let mut meter = Meter::new(alloc);
+    meter.make_room(alloc)?;
+    meter.horizon(99, at(0), None);
     let large = Report {
         up: (1 << 40) + 1,
         ..usage(1, 1, 50)
@@ -138,12 +141,12 @@ fn refuses_in_order(rt: HostRuntime) -> Result<(), Fail> {
     assert!(rt;
         take(&mut meter, alloc, usage(2, 1, 99))? == Err(MeterRefusal::MomentBack { last })
     );
-    for group in 2..17u32 {
+    for group in 2..16u32 {
         assert!(rt; is_new(&mut meter, alloc, usage(group, 1, 100))?);
     }
-    assert!(rt; take(&mut meter, alloc, usage(17, 1, 100))? == Err(MeterRefusal::TooManyGroups));
-    assert!(rt; is_new(&mut meter, alloc, usage(16, 2, 100))?);
-    assert!(rt; !meter.close(17, TriggerType::Final, last));
+    assert!(rt; take(&mut meter, alloc, usage(16, 1, 100))? == Err(MeterRefusal::TooManyGroups));
+    assert!(rt; is_new(&mut meter, alloc, usage(99, 1, 100))?);
+    assert!(rt; !meter.close(16, TriggerType::Final, last));
     assert_eq!(rt; meter.containers().len(), 16);
     Ok(())
 }
