@@ -1,7 +1,7 @@
 -- What an input decides.
 use Rattle.std.proofs.Common.{◌≡◌, ◌⊎◌, inl, inr, ℕ, ◌<◌, ◌≤◌, ◌^◌, length, List, refl, sym, ◌∙◌, ap, arith, Option, Some, Ok, Err, Result, IfSome}
 use Rattle.edge.specs.Faults.{CountRose}
-use Rattle.meter.specs.Meter.{Contents, nothing_yet}
+use Rattle.meter.specs.Contents.{Contents, nothing_yet}
 use Rattle.charging.specs.declared.words.Prices.{Prices}
 use Rattle.charging.specs.declared.status.Status.{Status}
 use Rattle.charging.specs.declared.status.Status.TheVariants as status

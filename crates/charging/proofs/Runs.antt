@@ -10,7 +10,9 @@ use Rattle.units.specs.declared.report.Report.{Report}
 use Rattle.meter.specs.declared.refusal.Seen.{Seen}
 use Rattle.meter.specs.declared.refusal.Seen.TheVariants.{New, Known}
 use Rattle.meter.specs.declared.refusal.MeterRefusal.{MeterRefusal}
-use Rattle.meter.specs.Meter.{Contents, IsUndisturbed, after_report, answer_of, nothing_yet}
+use Rattle.meter.specs.Admission.{answer_of}
+use Rattle.meter.specs.Contents.{Contents, IsUndisturbed, nothing_yet}
+use Rattle.meter.specs.Joining.{after_report}
 use Rattle.charging.specs.Rows.{AreRows}
 use Rattle.charging.specs.MeterRows.{Comes, IsMetered, if_new, or_bad_row, outcome_from, report_of, reports_from, with_report}
 use Rattle.charging.proofs.Readings.{first_record, no_record, some_rows}

@@ -1,6 +1,6 @@
 -- The table of an input.
 use Rattle.std.proofs.Common.{length, ◌≤◌, ◌^◌, ◌≡◌, ℕ, List}
-use Rattle.meter.specs.Meter.{AreNumbered, Contents}
+use Rattle.meter.specs.Contents.{AreNumbered, Contents}
 use Rattle.charging.specs.declared.words.Prices.{Prices}
 use Rattle.charging.specs.Status.{IsTable}
 use Rattle.charging.specs.MeterRows.{IsMetered}

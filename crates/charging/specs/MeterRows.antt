@@ -2,7 +2,9 @@
 use Rattle.std.specs.Prelude.{ℕ, ◌≡◌, ◌+◌, ◌-◌, ◌^◌, List, [], ◌∷◌, Option, Some, None, Result, Ok, Err, option_and_then}
 use Rattle.units.specs.Cut.{AreWidestCuts, whole_hour}
 use Rattle.units.specs.declared.report.Report.{Report}
-use Rattle.meter.specs.Meter.{Contents, after_report, answer_of, nothing_yet}
+use Rattle.meter.specs.Admission.{answer_of}
+use Rattle.meter.specs.Contents.{Contents, nothing_yet}
+use Rattle.meter.specs.Joining.{after_report}
 use Rattle.meter.specs.declared.refusal.Seen.{Seen}
 use Rattle.meter.specs.declared.refusal.Seen.TheVariants as seen
 use Rattle.meter.specs.declared.refusal.MeterRefusal.{MeterRefusal}

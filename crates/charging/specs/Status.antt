@@ -4,7 +4,7 @@ use Rattle.std.specs.Fmt.{decimal}
 use Rattle.std.specs.Io.KnownBytes.{Appends}
 use Rattle.edge.specs.Faults.{CountRose}
 use Rattle.units.specs.Cut.{AreWidestCuts, whole_hour}
-use Rattle.meter.specs.Meter.{AreNumbered, Contents}
+use Rattle.meter.specs.Contents.{AreNumbered, Contents}
 use Rattle.charging.specs.declared.words.Prices.{Prices}
 use Rattle.charging.specs.declared.status.Status.{Status}
 use Rattle.charging.specs.declared.status.Status.TheVariants as status

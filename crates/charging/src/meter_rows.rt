@@ -1,6 +1,6 @@
 ghost use Rattle.std.specs.Prelude.{◌≡◌, ◌<◌, ◌^◌, ℕ, ◌∷◌, [], Err, OnOk};
 ghost use Rattle.csv.specs.Records.{fields_of};
-ghost use Rattle.meter.specs.Meter.{nothing_yet};
+ghost use Rattle.meter.specs.Contents.{nothing_yet};
 ghost use Rattle.charging.specs.MeterRows.{Comes, IsMetered, report_from, report_of};
 ghost use Rattle.charging.specs.declared.meter_rows.RowsEnd.TheVariants as end;
 

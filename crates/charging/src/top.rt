@@ -1,7 +1,7 @@
 ghost use Rattle.std.specs.Prelude.{◌≡◌, ◌≢◌, ◌≤◌, ◌<◌, ◌^◌, ◌⊎◌, List, ℕ, None, Some, Ok, Err, take, IfOk, IfErr, OnOk, IfSome, string_bytes, length};
 ghost use Rattle.std.specs.Io.KnownBytes.{Appends, IsAtEnd};
 ghost use Rattle.edge.specs.Faults.{CountRose};
-ghost use Rattle.meter.specs.Meter.{Contents};
+ghost use Rattle.meter.specs.Contents.{Contents};
 ghost use Rattle.charging.specs.Words.{AreInRange, meter_words};
 ghost use Rattle.charging.specs.Status.{EndedBy, IsTable, Reads, ReadsToEnd, WritesText, error_line};
 

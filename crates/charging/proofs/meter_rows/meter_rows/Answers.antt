@@ -2,7 +2,9 @@ use Rattle.std.proofs.Common.{subst, ◌++◌, ◌∷◌, [], ◌≡◌, ◌≢�
 use Rattle.csv.specs.Reading.{strip_bom}
 use Rattle.csv.specs.declared.parser.State.TheVariants as st
 use Rattle.units.specs.Cut.{AreWidestCuts, whole_hour}
-use Rattle.meter.specs.Meter.{Contents, IsUndisturbed, after_report, answer_of, report_total}
+use Rattle.meter.specs.Admission.{answer_of}
+use Rattle.meter.specs.Contents.{Contents, IsUndisturbed, report_total}
+use Rattle.meter.specs.Joining.{after_report}
 use Rattle.meter.specs.declared.refusal.Seen.TheVariants.{New}
 use Rattle.charging.specs.MeterRows.{Comes, report_of}
 use Rattle.charging.proofs.Runs.{LeadsOn, comes_to_a_bad_row, comes_to_the_end, leads_from_the_first, leads_past_a_row, none_is_cut, nothing_is_undisturbed, row_refused, row_without_report}

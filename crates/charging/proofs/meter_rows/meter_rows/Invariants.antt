@@ -2,7 +2,7 @@ use Rattle.std.proofs.Common.{◌≡◌, ◌≤◌, ◌+◌, ◌-◌, ◌^◌, �
 use Rattle.csv.specs.declared.parser.State.{State}
 use Rattle.units.specs.Cut.{AreWidestCuts, whole_hour}
 use Rattle.units.specs.declared.report.Report.{Report}
-use Rattle.meter.specs.Meter.{IsUndisturbed, report_total}
+use Rattle.meter.specs.Contents.{IsUndisturbed, report_total}
 use Rattle.charging.specs.Rows.{StandsAt}
 use Rattle.charging.proofs.Runs.{LeadsOn}
 use Rattle.charging.proofs.meter_rows.meter_rows.Given as goal
