@@ -1,0 +1,29 @@
+use units::Action;
+
+/// What the quotas of a rating group count (TS 32.255, 5.1.5).
+#[derive(Clone, Copy, PartialEq, Eq, Debug)]
+pub enum Kind {
+    /// Octets, up and down together.
+    Volume,
+    /// Seconds.
+    Time,
+    /// Nothing: usage is charged without quota management.
+    Offline,
+}
+
+/// What a tariff says of the quotas of a rating group (TS 32.290, 5.4; the ranges are this product's own).
+#[derive(Clone, Copy, PartialEq, Eq, Debug)]
+pub struct Terms {
+    /// What its quotas count.
+    pub kind: Kind,
+    /// The most units of a quota: 1 to 2^40 octets, or 1 to 2^32 - 1 seconds.
+    pub chunk: u64,
+    /// The quota threshold, in units of the kind; 0 for none.
+    pub threshold: u32,
+    /// The validity time, in seconds, at most 604,800; 0 for none.
+    pub validity: u32,
+    /// The quota holding time, in seconds, at most 604,800; 0 for none.
+    pub holding: u32,
+    /// What follows once the final units are used up.
+    pub action: Action,
+}
