@@ -1,1 +1,7 @@
 pub mod Row
+pub mod Tariff
+pub mod Grammar
+pub mod Price
+pub mod Switch
+pub mod Grant
+pub mod Caches

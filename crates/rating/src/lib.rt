@@ -2,9 +2,15 @@
 #![tactic(auto)]
 
 mod fields;
+mod grant;
 mod period;
+mod refusal;
 mod row;
+mod search;
+mod tariff;
 mod terms;
 
+pub use grant::Grant;
 pub use period::Period;
+pub use refusal::RatingRefusal;
 pub use terms::{Kind, Terms};
