@@ -1,1 +1,4 @@
 pub mod Hours
+pub mod Found
+pub mod Days
+pub mod Switches

@@ -1,10 +1,17 @@
 -- What is kept beside the rows for speed; no public clause speaks of it.
-use Rattle.std.specs.Prelude.{◌≡◌, ℕ, ◌≤◌, List, Option, All}
+use Rattle.std.specs.Prelude.{◌≡◌, ℕ, ◌≤◌, ◌==◌, nat_lt, nat_eq, Bool, true, List, [], Option, None, All, length}
+use Rattle.std.specs.List.{list_all, list_any}
+use Rattle.std.specs.HashMap.{get}
 use Rattle.std.specs.List.Sorted.{IsNonDecreasingBy}
 use Rattle.rating.specs.declared.period.Period.{Period}
+use Rattle.rating.specs.declared.row.TariffRow.{TariffRow}
+use Rattle.rating.specs.declared.row.TariffRow.TheVariants.{Group, Price}
 use Rattle.rating.specs.declared.tariff.Tariff.TheInside.{Inside}
+use Rattle.rating.specs.declared.reading.Reading.TheInside as reading
+use Rattle.rating.specs.declared.tariffs.Tariffs.TheInside as tariffs
 use Rattle.rating.specs.Row.{IsSmall}
-use Rattle.rating.specs.Tariff.{GroupTariff}
+use Rattle.rating.specs.Tariff.{GroupTariff, tariff, tariff_of, periods_of}
+use Rattle.rating.specs.Grammar.{groups_of, first_bad}
 use Rattle.rating.specs.Grant.{top_price}
 
 -- the tariff that is kept
@@ -16,3 +23,30 @@ pub record IsKept (t : Inside) : Type 0 where
   pub hours : IsNonDecreasingBy (λ (p : Period). p.hour) t.periods
   pub small : All IsSmall t.periods
   pub top : t.top ≡ top_price t.terms.kind t.periods
+
+-- the group of a price row is among these
+abbrev pub is_known : List ℕ → TariffRow → Bool
+is_known groups (Group g terms) = true
+is_known groups (Price g period) = list_any (nat_eq g) groups
+
+-- no more periods than hours below any that is above all of theirs, and at most one for each hour of the day
+pub record AreFew (periods : List Period) : Type 0 where
+  pub below : (hour : ℕ) → list_all (λ p. nat_lt p.hour hour) periods ≡ true → length periods ≤ hour
+  pub most : length periods ≤ 24
+
+-- rows that were read: few groups, price rows of these alone, and few of each
+pub record AreSound (rows : List TariffRow) : Type 0 where
+  pub most : length (groups_of rows) ≤ 1000
+  pub known : list_all (is_known (groups_of rows)) rows ≡ true
+  pub few : (group : ℕ) → AreFew (periods_of rows group)
+
+-- the rows read so far are sound; their groups are counted, and their tariffs are in the table
+pub record IsRead (r : reading.Inside) : Type 0 where
+  pub sound : AreSound r.rows
+  pub groups : r.groups ≡ length (groups_of r.rows)
+  pub table : (group : ℕ) → get nat_eq r.table group ≡ tariff_of r.rows group
+
+-- the rows are a tariff, and their tariffs are in the table
+pub record IsWhole (t : tariffs.Inside) : Type 0 where
+  pub good : first_bad [] t.rows ≡ None
+  pub table : (group : ℕ) → get nat_eq t.table group ≡ tariff t.rows group

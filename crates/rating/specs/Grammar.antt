@@ -1,5 +1,5 @@
 -- Which rows are a tariff, and which row is the first that breaks it (this product's own).
-use Rattle.std.specs.Prelude.{ℕ, ◌+◌, ◌==◌, ◌&&◌, not, nat_lt, is_none, Bool, true, false, List, [], ◌∷◌, ◌++◌, length, Option, Some, None, Result, Ok, Err, if◌then◌else◌}
+use Rattle.std.specs.Prelude.{◌≡◌, ℕ, ◌+◌, ◌==◌, ◌&&◌, not, nat_lt, is_none, Bool, true, false, List, [], ◌∷◌, ◌++◌, length, Option, Some, None, Result, Ok, Err, if◌then◌else◌}
 use Rattle.std.specs.List.{filter_map, list_all}
 use Rattle.rating.specs.declared.terms.Kind.{Kind}
 use Rattle.rating.specs.declared.terms.Kind.TheVariants.{Volume, Time, Offline}
@@ -9,7 +9,7 @@ use Rattle.rating.specs.declared.row.TariffRow.TheVariants.{Group, Price}
 use Rattle.rating.specs.declared.refusal.RatingRefusal.{RatingRefusal}
 use Rattle.rating.specs.declared.refusal.RatingRefusal.TheVariants.{BadRow, OutOfMemory}
 use Rattle.rating.specs.Row.{tariff_row}
-use Rattle.rating.specs.Tariff.{GroupTariff, tariff_of, periods_of, terms_of}
+use Rattle.rating.specs.Tariff.{GroupTariff, tariff_of, periods_by, terms_of}
 
 -- the group of a group row
 abbrev pub group_in : TariffRow → Option ℕ
@@ -41,7 +41,7 @@ may_follow rows (Price g period) = may_extend_some (tariff_of rows g) period
 
 -- a group has a price row
 abbrev pub has_price : List TariffRow → ℕ → Bool
-has_price rows group = nat_lt 0 (length (periods_of rows group))
+has_price rows group = nat_lt 0 (length (periods_by (tariff_of rows group)))
 
 -- each group has a price row
 abbrev pub is_complete : List TariffRow → Bool
@@ -64,3 +64,8 @@ answer_by rows (Some row) = Err (BadRow row)
 
 abbrev pub read_answer : List (List (List ℕ)) → Result (List (List (List ℕ))) RatingRefusal
 read_answer rows = answer_by rows (first_bad [] rows)
+
+-- a refusal is want of memory, or names the first bad row
+abbrev pub IsCause : Option ℕ → RatingRefusal → Type 0
+IsCause bad (BadRow row) = bad ≡ Some row
+IsCause bad OutOfMemory = Unit {0}

@@ -1,5 +1,5 @@
 -- The tariff of a rating group among the rows that were read (this product's own).
-use Rattle.std.specs.Prelude.{ℕ, ◌==◌, List, [], ◌∷◌, Option, Some, None, if◌then◌else◌, option_map, slice_get}
+use Rattle.std.specs.Prelude.{ℕ, ◌==◌, List, [], ◌∷◌, ◌++◌, Option, Some, None, if◌then◌else◌, option_map, slice_get}
 use Rattle.std.specs.List.{filter_map}
 use Rattle.rating.specs.declared.terms.Terms.{Terms}
 use Rattle.rating.specs.declared.period.Period.{Period}
@@ -50,3 +50,8 @@ periods_by (Some t) = t.periods
 -- the periods of a group by rows of fields
 abbrev pub periods : List (List (List ℕ)) → ℕ → List Period
 periods rows group = periods_by (tariff rows group)
+
+-- a tariff with one period more
+abbrev pub extended : Option GroupTariff → Period → Option GroupTariff
+extended None period = None
+extended (Some t) period = Some (record { terms = t.terms; periods = t.periods ++ period ∷ [] })

@@ -6,11 +6,14 @@ mod grant;
 mod period;
 mod refusal;
 mod row;
+mod reading;
 mod search;
 mod tariff;
+mod tariffs;
 mod terms;
 
 pub use grant::Grant;
 pub use period::Period;
 pub use refusal::RatingRefusal;
+pub use tariffs::Tariffs;
 pub use terms::{Kind, Terms};
