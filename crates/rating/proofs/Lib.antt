@@ -2,3 +2,5 @@ pub mod Hours
 pub mod Found
 pub mod Days
 pub mod Switches
+pub mod Rows
+pub mod Sound

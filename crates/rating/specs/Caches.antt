@@ -27,7 +27,7 @@ pub record IsKept (t : Inside) : Type 0 where
 -- the group of a price row is among these
 abbrev pub is_known : List ℕ → TariffRow → Bool
 is_known groups (Group g terms) = true
-is_known groups (Price g period) = list_any (nat_eq g) groups
+is_known groups (Price g period) = list_any (λ h. h == g) groups
 
 -- no more periods than hours below any that is above all of theirs, and at most one for each hour of the day
 pub record AreFew (periods : List Period) : Type 0 where

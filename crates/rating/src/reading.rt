@@ -37,7 +37,7 @@ impl Model for Reading {
 // Puts a new group into the table, unless it is there.
 fn take_group(alloc: Global, table: &mut HashMap<u32, Tariff>, group: u32, terms: Terms) -> Result<bool, OutOfMemory>
     ensures taken { IfOk result (λ taken. taken ≡ is_none (get nat_eq table.old group)) }
-    ensures table { result ≡ Ok true → (q : ℕ) → get nat_eq table.new q ≡ (if q == group then Some (record { terms = terms; periods = [] }) else get nat_eq table.old q) }
+    ensures table { result ≡ Ok true → (q : ℕ) → get nat_eq table.new q ≡ (if group == q then Some (record { terms = terms; periods = [] }) else get nat_eq table.old q) }
 {
     if table.contains_key(&group) {
         return Ok(false);
@@ -50,7 +50,7 @@ fn take_group(alloc: Global, table: &mut HashMap<u32, Tariff>, group: u32, terms
 fn take_price(table: &mut HashMap<u32, Tariff>, group: u32, period: Period) -> Result<bool, OutOfMemory>
     requires { IsSmall period }
     ensures taken { IfOk result (λ taken. taken ≡ may_extend_some (get nat_eq table.old group) period) }
-    ensures table { result ≡ Ok true → (q : ℕ) → get nat_eq table.new q ≡ (if q == group then extended (get nat_eq table.old group) period else get nat_eq table.old q) }
+    ensures table { result ≡ Ok true → (q : ℕ) → get nat_eq table.new q ≡ (if group == q then extended (get nat_eq table.old group) period else get nat_eq table.old q) }
 {
     let Some(mut tariff) = table.remove(&group) else {
         return Ok(false);
