@@ -72,6 +72,7 @@ soonest_today after n xs d sorted small low high l =
   where
     top : (get_or xs n d).hour ≤ 23
     top = (small n d l).hour
+
     each : (k : ℕ) (e : Period) → k < length xs → (k < n) ⊎ (n ≤ k) → after / 86400 * 86400 + (get_or xs n d).hour * 3600 ≤ next_at after (get_or xs k e).hour
     each k e b (inr x) =
         let later = sorted n k e x b in
@@ -87,10 +88,10 @@ pub soonest_tomorrow : (after n : ℕ) (xs : List Period) (d : Period) → IsNon
     → soonest after xs ≡ Some (after / 86400 * 86400 + (get_or xs 0 d).hour * 3600 + 86400)
 soonest_tomorrow after n xs d sorted low l some =
     soonest_is after _ xs 0 d some (comes_tomorrow after (get_or xs 0 d).hour (low 0 d (omega arith) (omega arith))) (λ k e b.
-        let later = sorted 0 k e (omega arith) b in
-        let same = ap (λ (p : Period). p.hour) (get_or_default xs 0 d e some) in
-        let at = comes_tomorrow after (get_or xs k e).hour (low k e (omega arith) (omega arith)) in
-        omega (arith, later, same, at))
+    let later = sorted 0 k e (omega arith) b in
+    let same = ap (λ (p : Period). p.hour) (get_or_default xs 0 d e some) in
+    let at = comes_tomorrow after (get_or xs k e).hour (low k e (omega arith) (omega arith)) in
+    omega (arith, later, same, at))
 
 -- a moment made of seconds
 pub made_in_range : (m : ℕ) (made : Option ℕ) → (IsSome made ↔ (m ≤ 3155759999)) → IfSome made (λ x. x ≡ m) → made ≡ in_range (Some m)

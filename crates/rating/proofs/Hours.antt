@@ -27,6 +27,7 @@ later_by_last xs last hour sorted is = by (nat_lt last.hour hour) refl
   where
     within : length xs - 1 < length xs
     within = slice_get_within xs (length xs - 1) last is
+
     by : (b : Bool) → nat_lt last.hour hour ≡ b → list_all (λ p. nat_lt p.hour hour) xs ≡ b
     by true e = list_all-from_AllPass (λ p. nat_lt p.hour hour) xs (λ k d l.
         let below = sorted k (length xs - 1) d (omega arith) within in

@@ -4,3 +4,5 @@ pub mod Days
 pub mod Switches
 pub mod Rows
 pub mod Sound
+pub mod Taken
+pub mod Steps

@@ -68,10 +68,6 @@ unknown_none gs (Price h p ∷ rows) g all unknown = by (h == g) refl (list_any 
     by false e true f a ih = ih a
     by true e true f a ih = absurd (true≢false (sym f ∙ ap (λ k. list_any (λ h. h == k) gs) (is_eq h g e) ∙ unknown))
 
-none_is : {X : Type 0} (o : Option X) → is_none o ≡ true → o ≡ None
-none_is None h = refl
-none_is (Some x) h = absurd (true≢false (sym h))
-
 some_not : {X : Type 0} (o : Option X) → o ≡ None → is_some o ≡ false
 some_not o e = rw e refl
 
@@ -81,6 +77,7 @@ tariff_group rows g t q sound new = by (g == q) refl
   where
     none : periods_of rows g ≡ []
     none = unknown_none (groups_of rows) rows g sound.known (sym (terms_known rows g) ∙ some_not (terms_of rows g) new)
+
     by : (b : Bool) → (g == q) ≡ b → tariff_of (rows ++ Group g t ∷ []) q ≡ (if b then Some (record { terms = t; periods = [] }) else tariff_of rows q)
     by true e =
         let same : g ≡ q = is_eq g q e in
@@ -102,6 +99,7 @@ tariff_price rows g p q = by (g == q) refl
   where
     terms : terms_of (rows ++ Price g p ∷ []) q ≡ terms_of rows q
     terms = terms_push rows (Price g p) q ∙ or_none (terms_of rows q)
+
     by : (b : Bool) → (g == q) ≡ b → tariff_of (rows ++ Price g p ∷ []) q ≡ (if b then extended (tariff_of rows g) p else tariff_of rows q)
     by true e =
         let same : g ≡ q = is_eq g q e in
@@ -110,3 +108,11 @@ tariff_price rows g p q = by (g == q) refl
     by false e =
         let periods : periods_of (rows ++ Price g p ∷ []) q ≡ periods_of rows q = periods_push rows (Price g p) q ∙ ap (λ b. periods_of rows q ++ cons_option (if b then Some p else None) []) e ∙ append_none (periods_of rows q) in
         (λ i. option_map (λ ts. record { terms = ts; periods = periods i }) (terms i))
+
+-- no tariff, no terms
+pub no_terms : (rows : List TariffRow) (g : ℕ) → is_none (tariff_of rows g) ≡ true → terms_of rows g ≡ None
+no_terms rows g h = by (terms_of rows g) h
+  where
+    by : (o : Option Terms) → is_none {T = GroupTariff} (option_map (λ ts. record { terms = ts; periods = periods_of rows g }) o) ≡ true → o ≡ None
+    by None i = refl
+    by (Some ts) i = absurd (true≢false (sym i))

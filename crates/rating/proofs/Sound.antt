@@ -44,9 +44,9 @@ few_more ps p few small later =
     let under : length ps ≤ p.hour = few.below p.hour later in
     record {
       below = λ hour all.
-        let parts = both (list_all (λ q. nat_lt q.hour hour) ps) (nat_lt p.hour hour && true) (sym (list_all-append (λ (q : Period). nat_lt q.hour hour) ps (p ∷ [])) ∙ all) in
-        let lt = lt_is p.hour hour (both (nat_lt p.hour hour) true parts.1).0 in
-        omega (arith, l, under, lt);
+          let parts = both (list_all (λ q. nat_lt q.hour hour) ps) (nat_lt p.hour hour && true) (sym (list_all-append (λ (q : Period). nat_lt q.hour hour) ps (p ∷ [])) ∙ all) in
+          let lt = lt_is p.hour hour (both (nat_lt p.hour hour) true parts.1).0 in
+          omega (arith, l, under, lt);
       most = omega (arith, l, under, small);
     }
 
@@ -99,7 +99,7 @@ sound_more rows (Price g p) sound range follows =
   where
     few_at : (q : ℕ) (b : Bool) → (g == q) ≡ b → AreFew (periods_of (rows ++ Price g p ∷ []) q)
     few_at q true e = subst AreFew (sym (periods_push rows (Price g p) q ∙ ap (λ b. periods_of rows q ++ cons_option (if b then Some p else None) []) e))
-      (few_more (periods_of rows q) p (sound.few q) range.hour (ap (λ k. list_all (λ (o : Period). nat_lt o.hour p.hour) (periods_of rows k)) (sym (is_eq g q e)) ∙ (extends rows g p follows).later))
+        (few_more (periods_of rows q) p (sound.few q) range.hour (ap (λ k. list_all (λ (o : Period). nat_lt o.hour p.hour) (periods_of rows k)) (sym (is_eq g q e)) ∙ (extends rows g p follows).later))
     few_at q false e = subst AreFew (sym (periods_push rows (Price g p) q ∙ ap (λ b. periods_of rows q ++ cons_option (if b then Some p else None) []) e ∙ append_none (periods_of rows q))) (sound.few q)
 
 -- no rows are sound
@@ -135,9 +135,11 @@ counts_one rows h p (g ∷ gs) k = by (g == h) refl k (counts_one rows h p gs) (
   where
     back : (g == h) ≡ true → (h == g) ≡ true
     back e = grind (arith, nat_tests)
+
     at : (b : Bool) → length (periods_of rows g) ≤ length (cons_option (if b then Some p else None) (periods_of rows g))
     at true = omega arith
     at false = omega arith
+
     by : (b : Bool) → (g == h) ≡ b → (b || list_any (λ k. k == h) gs) ≡ true → (list_any (λ k. k == h) gs ≡ true → periods_count rows gs + 1 ≤ periods_count (Price h p ∷ rows) gs) → periods_count rows gs ≤ periods_count (Price h p ∷ rows) gs → periods_count rows (g ∷ gs) + 1 ≤ periods_count (Price h p ∷ rows) (g ∷ gs)
     by true e i ih least = let l = ap (λ b. length (cons_option (if b then Some p else None) (periods_of rows g))) (back e) in omega (arith, l, least)
     by false e i ih least = let more = ih i in let l = at (h == g) in omega (arith, more, l)

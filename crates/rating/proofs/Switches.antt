@@ -91,8 +91,10 @@ soonest_step after moment x xs small rest (Some k) e is = by (cases_lt k (next_a
   where
     found : IsSoonest after k xs
     found = rest k e
+
     at_least : (m other : ℕ) → m ≤ next_at after x.hour → m ≤ k → list_any (λ (p : Period). p.hour == other) (x ∷ xs) ≡ true → m ≤ next_at after other
     at_least m other a b h = ⊎_elim (λ (same : x.hour ≡ other). let at = ap (next_at after) same in omega (arith, a, at)) (λ g. let l = found.least other g in omega (arith, l, b)) (listed_cases other x xs h)
+
     by : (k < next_at after x.hour) ⊎ (next_at after x.hour ≤ k) → IsSoonest after moment (x ∷ xs)
     by (inl l) = record {
       hour = found.hour;
@@ -153,6 +155,7 @@ in_range_first after xs two small (Some moment) e some = by (nat_le moment 31557
   where
     found : IsSoonest after moment xs
     found = soonest_found after xs small moment e
+
     by : (b : Bool) → nat_le moment 3155759999 ≡ b → IsFirstSwitch (switches xs) after (if b then Some moment else None)
     by true l = let there = is_switch_there after moment xs two found in (there.0, grind (arith, nat_tests), there.1, none_between after moment xs found)
     by false l = λ other a b. none_between after moment xs found other a (let gt : 3155759999 < moment = grind (arith, nat_tests) in omega arith)

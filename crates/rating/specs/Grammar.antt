@@ -39,13 +39,18 @@ abbrev pub may_follow : List TariffRow → TariffRow → Bool
 may_follow rows (Group g terms) = nat_lt (length (groups_of rows)) 1000 && is_none (terms_of rows g)
 may_follow rows (Price g period) = may_extend_some (tariff_of rows g) period
 
+-- the group of a group row passes a test
+abbrev pub is_priced : (ℕ → Bool) → TariffRow → Bool
+is_priced test (Group g terms) = test g
+is_priced test (Price g period) = true
+
 -- a group has a price row
 abbrev pub has_price : List TariffRow → ℕ → Bool
 has_price rows group = nat_lt 0 (length (periods_by (tariff_of rows group)))
 
--- each group has a price row
+-- the group of each group row has a price row
 abbrev pub is_complete : List TariffRow → Bool
-is_complete rows = list_all (has_price rows) (groups_of rows)
+is_complete rows = list_all (is_priced (has_price rows)) rows
 
 -- a row that may follow is read on from, any other is the bad one
 abbrev pub read_on : List TariffRow → Option TariffRow → (List TariffRow → Option ℕ) → Option ℕ

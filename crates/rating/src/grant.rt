@@ -55,7 +55,11 @@ pub fn quota(wish: u64, top: u64, free: u128) -> Grant
 {
     let units = units_of(wish, top, free);
     Grant {
-        code: if units == 0 { Code::LimitReached } else { Code::Success },
+        code: if units == 0 {
+            Code::LimitReached
+        } else {
+            Code::Success
+        },
         units,
         reserve: u128::from(units) * u128::from(top),
         is_final: units < wish,

@@ -4,9 +4,9 @@
 mod fields;
 mod grant;
 mod period;
+mod reading;
 mod refusal;
 mod row;
-mod reading;
 mod search;
 mod tariff;
 mod tariffs;

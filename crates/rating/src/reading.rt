@@ -2,7 +2,7 @@ ghost use Rattle.std.specs.Prelude.{◌≡◌, ◌+◌, ◌==◌, ◌&&◌, ◌+
 ghost use Rattle.std.specs.HashMap.{get};
 ghost use Rattle.rating.specs.Row.{IsInRange, IsSmall};
 ghost use Rattle.rating.specs.Tariff.{GroupTariff, extended, tariff_of, periods_by};
-ghost use Rattle.rating.specs.Grammar.{is_complete, may_extend_some, may_follow, has_price};
+ghost use Rattle.rating.specs.Grammar.{is_complete, is_priced, may_extend_some, may_follow};
 
 use crate::period::Period;
 use crate::row::TariffRow;
@@ -35,7 +35,12 @@ impl Model for Reading {
 }
 
 // Puts a new group into the table, unless it is there.
-fn take_group(alloc: Global, table: &mut HashMap<u32, Tariff>, group: u32, terms: Terms) -> Result<bool, OutOfMemory>
+fn take_group(
+    alloc: Global,
+    table: &mut HashMap<u32, Tariff>,
+    group: u32,
+    terms: Terms,
+) -> Result<bool, OutOfMemory>
     ensures taken { IfOk result (λ taken. taken ≡ is_none (get nat_eq table.old group)) }
     ensures table { result ≡ Ok true → (q : ℕ) → get nat_eq table.new q ≡ (if group == q then Some (record { terms = terms; periods = [] }) else get nat_eq table.old q) }
 {
@@ -47,7 +52,11 @@ fn take_group(alloc: Global, table: &mut HashMap<u32, Tariff>, group: u32, terms
 }
 
 // Adds a period to a group's tariff, where it has one that admits it.
-fn take_price(table: &mut HashMap<u32, Tariff>, group: u32, period: Period) -> Result<bool, OutOfMemory>
+fn take_price(
+    table: &mut HashMap<u32, Tariff>,
+    group: u32,
+    period: Period,
+) -> Result<bool, OutOfMemory>
     requires { IsSmall period }
     ensures taken { IfOk result (λ taken. taken ≡ may_extend_some (get nat_eq table.old group) period) }
     ensures table { result ≡ Ok true → (q : ℕ) → get nat_eq table.new q ≡ (if group == q then extended (get nat_eq table.old group) period else get nat_eq table.old q) }
@@ -70,5 +79,83 @@ fn has_price(table: &HashMap<u32, Tariff>, group: u32) -> bool
     match table.get(&group) {
         Some(tariff) => tariff.has_price(),
         None => false,
+    }
+}
+
+// Whether the group of a group row has a price.
+fn is_priced(table: &HashMap<u32, Tariff>, row: &TariffRow) -> bool
+    ensures { result ≡ is_priced (λ group. nat_lt 0 (length (periods_by (get nat_eq table.now group)))) row.now }
+{
+    match row {
+        TariffRow::Group { group, .. } => has_price(table, *group),
+        TariffRow::Price { .. } => true,
+    }
+}
+
+impl Reading {
+    pub fn new(alloc: Global) -> Reading
+        ensures { result ≡ [] }
+    {
+        Reading {
+            rows: List::new(alloc),
+            groups: 0,
+            table: HashMap::new(alloc),
+        }
+    }
+
+    /// The number of the row after these, from 1.
+    pub fn next_row(&self) -> u32
+        ensures { result ≡ length self.now + 1 }
+    {
+        let _groups = self.groups;
+        self.rows.len() as u32 + 1
+    }
+
+    /// With one row more, where it may follow.
+    pub fn take(self, alloc: Global, row: TariffRow) -> Result<Option<Reading>, OutOfMemory>
+        requires { IsInRange row }
+        ensures { IfOk result (λ next. next ≡ (if may_follow self row then Some (self ++ row ∷ []) else None)) }
+    {
+        let Reading {
+            mut rows,
+            mut groups,
+            mut table,
+        } = self;
+        let taken = match row {
+            TariffRow::Group { group, terms } => {
+                groups += 1;
+                groups <= 1_000 && take_group(alloc, &mut table, group, terms)?
+            }
+            TariffRow::Price { group, period } => take_price(&mut table, group, period)?,
+        };
+        if !taken {
+            return Ok(None);
+        }
+        rows.push(row)?;
+        Ok(Some(Reading {
+            rows,
+            groups,
+            table,
+        }))
+    }
+
+    /// Whether each group has a price row.
+    pub fn is_complete(&self) -> bool
+        ensures { result ≡ is_complete self.now }
+    {
+        let table = &self.table;
+        self.rows.iter().all(|row| is_priced(table, row))
+    }
+
+    /// The tariffs of the groups.
+    pub fn into_table(self) -> HashMap<u32, Tariff>
+        ensures { (group : ℕ) → get nat_eq result group ≡ tariff_of self group }
+    {
+        let Reading {
+            rows: _,
+            groups: _,
+            table,
+        } = self;
+        table
     }
 }

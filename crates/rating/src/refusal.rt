@@ -1,4 +1,4 @@
-use std::alloc::{AllocError};
+use std::alloc::AllocError;
 use units::OutOfMemory;
 
 /// Why rows are no tariffs (this product's own).

@@ -20,7 +20,14 @@ fn group_row(group: &Text, rest: &[Text]) -> Option<TariffRow>
     ensures range { IfSome result IsInRange }
 {
     match rest {
-        [kind_word, chunk_field, threshold, validity, holding, action_word] => {
+        [
+            kind_word,
+            chunk_field,
+            threshold,
+            validity,
+            holding,
+            action_word,
+        ] => {
             let group = small_number(u32::MAX, group)?;
             let kind = kind(kind_word)?;
             Some(TariffRow::Group {

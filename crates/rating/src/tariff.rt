@@ -126,7 +126,9 @@ impl Tariff {
         ensures { result ≡ cost (period_at (hour_of first) self.now.periods) up down seconds }
     {
         match period_at(self.periods.as_slice(), hour_of(first)) {
-            Some(p) => amount(up, p.up) + amount(down, p.down) + amount(u64::from(seconds), p.seconds),
+            Some(p) => amount(up, p.up)
+                + amount(down, p.down)
+                + amount(u64::from(seconds), p.seconds),
             None => 0,
         }
     }

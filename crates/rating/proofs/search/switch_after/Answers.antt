@@ -11,12 +11,12 @@ returns-then-count-periods c =
     let low = rw c.hour_of.ensures.value at c.count_until-count.ensures.low in
     let high = rw c.hour_of.ensures.value at c.count_until-count.ensures.high in
     switch_is c.args.after _ c.args.periods.now c.new.result (omega arith)
-      (soonest_today c.args.after c.count_until-count.result c.args.periods.now _ c.requires.hours c.requires.small low high (omega arith) ∙ ap Some (sym c.today_at.ensures))
-      c.new.ensures.range c.new.ensures.value
+    (soonest_today c.args.after c.count_until-count.result c.args.periods.now _ c.requires.hours c.requires.small low high (omega arith) ∙ ap Some (sym c.today_at.ensures))
+    c.new.ensures.range c.new.ensures.value
 
 pub returns-else-count-periods : goal.returns-else-count-periods
 returns-else-count-periods c =
     let low = rw c.hour_of.ensures.value at c.count_until-count.ensures.low in
     switch_is c.args.after _ c.args.periods.now c.new-else-count-periods.result (omega arith)
-      (soonest_tomorrow c.args.after c.count_until-count.result c.args.periods.now _ c.requires.hours low (omega arith) (omega arith) ∙ ap Some (ap (λ n. n + 86400) (sym c.today_at-else-count-periods.ensures)))
-      c.new-else-count-periods.ensures.range c.new-else-count-periods.ensures.value
+    (soonest_tomorrow c.args.after c.count_until-count.result c.args.periods.now _ c.requires.hours low (omega arith) (omega arith) ∙ ap Some (ap (λ n. n + 86400) (sym c.today_at-else-count-periods.ensures)))
+    c.new-else-count-periods.ensures.range c.new-else-count-periods.ensures.value
