@@ -6,3 +6,6 @@ pub mod Rows
 pub mod Sound
 pub mod Taken
 pub mod Steps
+pub mod Steady
+pub mod Ranges
+pub mod Costs

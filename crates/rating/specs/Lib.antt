@@ -4,4 +4,5 @@ pub mod Grammar
 pub mod Price
 pub mod Switch
 pub mod Grant
+pub mod Runs
 pub mod Caches
