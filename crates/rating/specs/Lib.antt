@@ -6,3 +6,4 @@ pub mod Switch
 pub mod Grant
 pub mod Runs
 pub mod Caches
+pub mod Same

@@ -1,7 +1,7 @@
 ghost use Rattle.std.specs.Prelude.{◌≡◌};
 ghost use Rattle.rating.specs.Grant.{no_quota, quota, units_of, wish_of};
 
-use units::Code;
+use units::{Code, Plain};
 
 /// What a rating group is granted (TS 32.290, 5.4.2; the reserve is this product's own).
 #[derive(Clone, Copy, PartialEq, Eq, Debug)]
@@ -64,4 +64,12 @@ pub fn quota(wish: u64, top: u64, free: u128) -> Grant
         reserve: u128::from(units) * u128::from(top),
         is_final: units < wish,
     }
+}
+
+impl Plain for Grant {
+    ghost use Rattle.std.proofs.Common.{rules};
+
+    ghost copies = { Prim.search rules };
+
+    ghost decides = { Prim.search rules };
 }

@@ -1,3 +1,5 @@
+use units::Plain;
+
 /// A period of a tariff: from an hour of the UTC day to the next listed one, and the prices in it (this product's own).
 #[derive(Clone, Copy, PartialEq, Eq, Debug)]
 pub struct Period {
@@ -9,4 +11,12 @@ pub struct Period {
     pub down: u64,
     /// The price of a second, in grains, at most 2^32.
     pub seconds: u64,
+}
+
+impl Plain for Period {
+    ghost use Rattle.std.proofs.Common.{rules};
+
+    ghost copies = { Prim.search rules };
+
+    ghost decides = { Prim.search rules };
 }

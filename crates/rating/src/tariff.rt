@@ -17,7 +17,7 @@ use std::marker::Model;
 use units::{Ask, Code, List, Moment};
 
 /// The tariff of a rating group.
-#[derive(Drop)]
+#[derive(Debug, Drop)]
 pub struct Tariff {
     terms: Terms,
     periods: List<Period>,
@@ -34,6 +34,20 @@ impl Model for Tariff {
     ghost view = { kept_tariff };
 
     ghost invariant = { IsKept };
+}
+
+impl Clone for Tariff {
+    ghost use Rattle.std.specs.Prelude.{◌≡◌};
+
+    ghost is_clone = { λ a b. b ≡ a };
+
+    fn clone(&self) -> Result<Tariff, AllocError> {
+        Ok(Tariff {
+            terms: self.terms,
+            periods: self.periods.clone()?,
+            top: self.top,
+        })
+    }
 }
 
 /// The price of a unit of a kind.

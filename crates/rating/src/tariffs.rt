@@ -13,13 +13,13 @@ use crate::refusal::RatingRefusal;
 use crate::row::tariff_row;
 use crate::tariff::Tariff;
 use crate::terms::Terms;
-use std::alloc::Global;
+use std::alloc::{AllocError, Global};
 use std::collections::HashMap;
 use std::marker::Model;
-use units::{Ask, Code, List, Moment, Text, copy};
+use units::{Ask, Code, List, Moment, Plain, Text, copy};
 
 /// The tariffs of all rating groups, as rows give them (TS 32.290, rating; the rows are this product's own).
-#[derive(Drop)]
+#[derive(Debug, Drop)]
 pub struct Tariffs {
     rows: List<List<Text>>,
     table: HashMap<u32, Tariff>,
@@ -125,4 +125,45 @@ impl Tariffs {
             None => no_quota(Code::RatingFailed),
         }
     }
+}
+
+impl Clone for Tariffs {
+    ghost use Rattle.std.specs.Prelude.{◌≡◌};
+
+    ghost is_clone = { λ a b. b ≡ a };
+
+    fn clone(&self) -> Result<Tariffs, AllocError> {
+        Ok(Tariffs {
+            rows: self.rows.clone()?,
+            table: self.table.clone()?,
+        })
+    }
+}
+
+impl PartialEq for Tariffs {
+    ghost use Rattle.std.specs.Prelude.{nat_eq};
+    ghost use Rattle.std.specs.Cmp.Lexicographic.{pointwise, lists_per, nat_list_eq_equiv};
+    ghost use Rattle.std.specs.Cmp.{partial_equiv_from_equiv};
+
+    ghost eq = { pointwise (pointwise (pointwise nat_eq)) };
+
+    ghost laws = { lists_per (lists_per (partial_equiv_from_equiv nat_list_eq_equiv)) };
+
+    fn eq(&self, other: &Tariffs) -> bool {
+        self.rows == other.rows
+    }
+}
+
+impl Eq for Tariffs {
+    ghost use Rattle.std.specs.Cmp.Lexicographic.{lists_equiv, nat_list_eq_equiv};
+
+    ghost laws = { lists_equiv (lists_equiv nat_list_eq_equiv) };
+}
+
+impl Plain for Tariffs {
+    ghost use Rattle.std.specs.Cmp.Lexicographic.{bytes_decides, pointwise_decides};
+
+    ghost copies = { λ a b h. h };
+
+    ghost decides = { pointwise_decides (pointwise_decides bytes_decides) };
 }

@@ -1,4 +1,4 @@
-use units::Action;
+use units::{Action, Plain};
 
 /// What the quotas of a rating group count (TS 32.255, 5.1.5).
 #[derive(Clone, Copy, PartialEq, Eq, Debug)]
@@ -26,4 +26,23 @@ pub struct Terms {
     pub holding: u32,
     /// What follows once the final units are used up.
     pub action: Action,
+}
+
+impl Plain for Kind {
+    ghost use Rattle.std.proofs.Common.{rules};
+
+    ghost copies = { Prim.search rules };
+
+    ghost decides = { Prim.search rules };
+}
+
+impl Plain for Terms {
+    ghost use Rattle.std.proofs.Common.{rules};
+    ghost use Rattle.rating.specs.Same.{terms_decides};
+    ghost use Rattle.units.specs.contracts.answer.ActionPlain.TheImpl.Laws as action;
+    ghost use Rattle.rating.specs.contracts.terms.KindPlain.TheImpl.Laws as kind;
+
+    ghost copies = { Prim.search rules };
+
+    ghost decides = { λ a b. terms_decides _ _ a b (kind.decides-law a.kind b.kind) (action.decides-law a.action b.action) };
 }
