@@ -16,6 +16,7 @@ use Rattle.rating.specs.Switch.{is_switch, switches}
 use Rattle.rating.specs.Runs.{AreInOrder, IsPricedRight, RunsArePricedRight, CutsArePricedRight, reports_price, containers_price}
 use Rattle.rating.proofs.Steady.{steady}
 use Rattle.rating.proofs.Ranges.{periods_of_day}
+use Rattle.rating.proofs.Numbers.{is_eq}
 
 cost_add : (o : Option Period) (u d s v e t : ℕ) → cost o u d s + cost o v e t ≡ cost o (u + v) (d + e) (s + t)
 cost_add None u d s v e t = omega arith
@@ -62,7 +63,7 @@ same_prices rows group run groups order none k d l =
     let until : (get_or run k d).moment ≤ last_moment run = let o = order k (length run - 1) d (omega arith) (omega arith) in let f = last_moment_at run (length run - 1) d (omega arith) in omega (arith, o, f) in
     let held = steady (periods rows group) (first_moment run) (get_or run k d).moment (periods_of_day rows group) after (λ m a b. none m a (omega (arith, b, until))) in
     let one : report_price rows (get_or run k d) ≡ cost (period_at (hour_of (get_or run k d).moment) (periods rows group)) (get_or run k d).up (get_or run k d).down (get_or run k d).seconds =
-      ap (λ g. price rows g (get_or run k d).up (get_or run k d).down (get_or run k d).seconds (get_or run k d).moment) (groups k d l) in
+    ap (λ g. price rows g (get_or run k d).up (get_or run k d).down (get_or run k d).seconds (get_or run k d).moment) (groups k d l) in
     one ∙ ap (λ o. cost o (get_or run k d).up (get_or run k d).down (get_or run k d).seconds) held
 
 -- the law of runs
@@ -97,15 +98,13 @@ cut_price rows group reports (c ∷ cs) groups same order (run, rest, is, first,
     let run_order : AreInOrder run = subst AreInOrder (sym front) (IsNonDecreasingBy-take (λ (r : Report). r.moment) (length run) reports order) in
     let run_is : IsRun (is_switch rows c.group) run c = subst (λ g. IsRun (is_switch rows g) run c) (sym here) first in
     let one : container_price rows c ≡ reports_price rows run = run_price rows run c run_groups run_order run_is in
-    let more = cut_price rows group rest cs (subst (All (λ (r : Report). r.group ≡ group)) (sym back) (All-drop (λ (r : Report). r.group ≡ group) (length run) reports groups)) (All-tail (λ (c : Container). c.group ≡ group) c cs same) (subst AreInOrder (sym back) (IsNonDecreasingBy-drop (λ (r : Report). r.moment) (length run) reports order)) others in
-    (λ d h. ⊎_elim
-        (λ (e : c ≡ d). subst (IsPricedRight rows reports) e (record { before = []; run = run; after = rest; part = is; summed = first.summed; price = one }))
-        (λ (g : Contains cs d). let p = more.0 d g in record { before = run ++ p.before; run = p.run; after = p.after; part = is ∙ ap (λ ys. run ++ ys) p.part ∙ sym (append_assoc run p.before (p.run ++ p.after)); summed = p.summed; price = p.price })
-        (contains_cases c d cs h),
-     sum_by-cons (container_price rows) c cs ∙ (λ i. one i + more.1 i) ∙ sym (sum_by-append (report_price rows) run rest) ∙ ap (reports_price rows) (sym is))
-
-is_eq : (a b : ℕ) → (a == b) ≡ true → a ≡ b
-is_eq a b h = grind (arith, nat_tests)
+    let more = cut_price rows group rest cs (subst (All (λ (r : Report). r.group ≡ group)) (sym back) (All-drop (λ (r : Report). r.group ≡ group) (length run) reports groups)) (All-tail (λ (c : Container). c.group ≡ group) c cs same) (subst AreInOrder (sym back) (IsNonDecreasingBy-drop (λ (r : Report). r.moment) (length run) reports order)) others in (
+      λ d h. ⊎_elim
+          (λ (e : c ≡ d). subst (IsPricedRight rows reports) e (record { before = []; run = run; after = rest; part = is; summed = first.summed; price = one }))
+          (λ (g : Contains cs d). let p = more.0 d g in record { before = run ++ p.before; run = p.run; after = p.after; part = is ∙ ap (λ ys. run ++ ys) p.part ∙ sym (append_assoc run p.before (p.run ++ p.after)); summed = p.summed; price = p.price })
+          (contains_cases c d cs h),
+      sum_by-cons (container_price rows) c cs ∙ (λ i. one i + more.1 i) ∙ sym (sum_by-append (report_price rows) run rest) ∙ ap (reports_price rows) (sym is),
+    )
 
 -- so for the reports and containers of a group
 pub cut_of_group : (rows : List (List (List ℕ))) → CutsArePricedRight rows

@@ -7,6 +7,7 @@ use Rattle.std.proofs.lemmas.Grind.{common_steps}
 use Rattle.std.proofs.lemmas.Option.{slice_get-get_or, slice_get_past}
 use Rattle.rating.specs.declared.period.Period.{Period}
 use Rattle.rating.specs.Price.{last_of, period_at}
+use Rattle.rating.proofs.Numbers.{le_is, gt_is}
 
 -- the elements below a place pass a test, and those from it on do not
 pub filter_front : {X : Type 0} (test : X → Bool) (xs : List X) (i : ℕ) → AllWithin (λ x. test x ≡ true) xs 0 i → AllWithin (λ x. test x ≡ false) xs i (length xs) → i ≤ length xs → filter test xs ≡ take i xs
@@ -43,12 +44,6 @@ take_length (x ∷ xs) (suc i) l = let rest = take_length xs i (omega arith) in 
 -- the last of those that pass a test, where some do
 pub last_passing : {X : Type 0} (test : X → Bool) (xs : List X) (i : ℕ) → AllWithin (λ x. test x ≡ true) xs 0 (suc i) → AllWithin (λ x. test x ≡ false) xs (suc i) (length xs) → suc i ≤ length xs → last_of (filter test xs) ≡ slice_get xs i
 last_passing test xs i low high within = ap last_of (filter_front test xs (suc i) low high within) ∙ last_at (take (suc i) xs) i (take_length xs (suc i) within) ∙ get_take xs i
-
-le_is : (a b : ℕ) → a ≤ b → nat_le a b ≡ true
-le_is a b l = grind (arith, nat_tests)
-
-gt_is : (a b : ℕ) → b < a → nat_le a b ≡ false
-gt_is a b l = grind (arith, nat_tests)
 
 -- where some period begins at an hour or before, the last of these holds it
 pub held_by_low : (xs : List Period) (hour i n : ℕ) (d : Period) → n ≡ suc i → AllWithin (λ (p : Period). p.hour ≤ hour) xs 0 n → AllWithin (λ (p : Period). hour < p.hour) xs n (length xs) → n ≤ length xs → Some (get_or xs i d) ≡ period_at hour xs

@@ -11,15 +11,7 @@ use Rattle.std.proofs.lemmas.List.Sorted.{IsNonDecreasingBy-push}
 use Rattle.rating.specs.declared.terms.Kind.{Kind}
 use Rattle.rating.specs.declared.period.Period.{Period}
 use Rattle.rating.specs.Grant.{top_price, unit_price}
-
-is_lt : (a b : ℕ) → a < b → nat_lt a b ≡ true
-is_lt a b l = grind (arith, nat_tests)
-
-lt_is : (a b : ℕ) → nat_lt a b ≡ true → a < b
-lt_is a b l = grind (arith, nat_tests)
-
-not_lt : (a b : ℕ) → nat_lt a b ≡ false → b ≤ a
-not_lt a b l = grind (arith, nat_tests)
+use Rattle.rating.proofs.Numbers.{is_lt, lt_is}
 
 -- an hour is above those of all periods where it is above the last
 pub later_by_last : (xs : List Period) (last : Period) (hour : ℕ) → IsNonDecreasingBy (λ (p : Period). p.hour) xs → slice_get xs (length xs - 1) ≡ Some last → list_all (λ p. nat_lt p.hour hour) xs ≡ nat_lt last.hour hour

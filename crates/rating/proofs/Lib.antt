@@ -1,3 +1,4 @@
+pub mod Numbers
 pub mod Hours
 pub mod Found
 pub mod Days
@@ -9,3 +10,4 @@ pub mod Steps
 pub mod Steady
 pub mod Ranges
 pub mod Costs
+pub mod Walk

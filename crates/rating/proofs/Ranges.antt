@@ -84,6 +84,7 @@ periods_small rows g = by (terms_of (tariff_rows rows) g)
   where
     of : All IsSmall (periods_of (tariff_rows rows) g)
     of = all_given (period_in g) IsInRange IsSmall (period_small g) (tariff_rows rows) (rows_small rows)
+
     by : (o : Option Terms) → All IsSmall (periods_by (option_map (λ ts. record { terms = ts; periods = periods_of (tariff_rows rows) g }) o))
     by None = All-nil IsSmall
     by (Some ts) = of

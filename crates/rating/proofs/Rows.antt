@@ -14,12 +14,7 @@ use Rattle.rating.specs.Row.{IsInRange, IsSmall}
 use Rattle.rating.specs.Tariff.{GroupTariff, extended, tariff_of, terms_of, periods_of, periods_by, terms_in, period_in}
 use Rattle.rating.specs.Grammar.{groups_of, group_in, suits, may_extend, may_extend_some, may_follow}
 use Rattle.rating.specs.Caches.{is_known, AreFew, AreSound}
-
-pub is_eq : (a b : ℕ) → (a == b) ≡ true → a ≡ b
-is_eq a b h = grind (arith, nat_tests)
-
-pub lt_is : (a b : ℕ) → nat_lt a b ≡ true → a < b
-lt_is a b l = grind (arith, nat_tests)
+use Rattle.rating.proofs.Numbers.{is_eq}
 
 first_append : {X : Type 0} (xs ys : List X) → slice_get (xs ++ ys) 0 ≡ option_or (slice_get xs 0) (slice_get ys 0)
 first_append [] ys = refl

@@ -14,7 +14,8 @@ use Rattle.rating.specs.Row.{IsInRange, IsSmall}
 use Rattle.rating.specs.Tariff.{GroupTariff, tariff_of, terms_of, periods_of, period_in}
 use Rattle.rating.specs.Grammar.{groups_of, group_in, suits, may_extend, may_extend_some, may_follow}
 use Rattle.rating.specs.Caches.{is_known, AreFew, AreSound}
-use Rattle.rating.proofs.Rows.{groups_push, periods_push, terms_known, append_none, is_eq, lt_is}
+use Rattle.rating.proofs.Rows.{groups_push, periods_push, terms_known, append_none}
+use Rattle.rating.proofs.Numbers.{lt_is, is_eq}
 
 both : (a b : Bool) → (a && b) ≡ true → (a ≡ true) × (b ≡ true)
 both true b h = (refl, h)

@@ -26,6 +26,7 @@ test_step a hour h = by (nat_le a (hour + 1)) (nat_le a hour) refl refl
   where
     apart : a ≡ hour + 1 → ⊥
     apart e = true≢false (sym (let t : (a == hour + 1) ≡ true = grind (arith, nat_tests) in t) ∙ h)
+
     by : (b c : Bool) → nat_le a (hour + 1) ≡ b → nat_le a hour ≡ c → b ≡ c
     by true true e f = refl
     by false false e f = refl

@@ -9,6 +9,7 @@ use Rattle.rating.specs.Row.{IsSmall}
 use Rattle.rating.specs.Price.{hour_of}
 use Rattle.rating.specs.Switch.{next_at, sooner, soonest, in_range, switch_after, switches, IsFirstSwitch, NoSwitchBefore}
 use Rattle.rating.proofs.Days.{on_day, OnDay, comes_today, comes_tomorrow}
+use Rattle.rating.proofs.Numbers.{is_eq, eq_is}
 
 -- the moment at which an hour next begins
 pub record IsNext (after hour moment : ℕ) : Type 0 where
@@ -46,12 +47,6 @@ pub record IsSoonest (after moment : ℕ) (xs : List Period) : Type 0 where
   pub listed : list_any (λ (p : Period). p.hour == hour) xs ≡ true
   pub is : moment ≡ next_at after hour
   pub least : (other : ℕ) → list_any (λ (p : Period). p.hour == other) xs ≡ true → moment ≤ next_at after other
-
-is_eq : (a b : ℕ) → (a == b) ≡ true → a ≡ b
-is_eq a b h = grind (arith, nat_tests)
-
-eq_is : (a : ℕ) → (a == a) ≡ true
-eq_is a = grind (arith, nat_tests)
 
 listed_head : (x : Period) (xs : List Period) → list_any (λ (p : Period). p.hour == x.hour) (x ∷ xs) ≡ true
 listed_head x xs = rw (eq_is x.hour) refl

@@ -7,3 +7,4 @@ pub mod Grant
 pub mod Runs
 pub mod Caches
 pub mod Same
+pub mod Plain

@@ -38,4 +38,4 @@ abbrev pub CutsArePricedRight : List (List (List ℕ)) → Type 0
 CutsArePricedRight rows =
     (group : ℕ) (reports : List Report) (containers : List Container) → AreInOrder (reports_of group reports) → IsCut (is_switch rows group) (reports_of group reports) (containers_of group containers)
     → ((container : Container) → Contains (containers_of group containers) container → IsPricedRight rows (reports_of group reports) container)
-      × (containers_price rows (containers_of group containers) ≡ reports_price rows (reports_of group reports))
+    × (containers_price rows (containers_of group containers) ≡ reports_price rows (reports_of group reports))

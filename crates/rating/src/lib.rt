@@ -1,9 +1,13 @@
 //! Tariffs: what usage of a rating group costs, when its prices change, and what a quota of it sets aside.
 #![tactic(auto)]
 
+#[cfg(test)]
+mod cases;
 mod fields;
 mod grant;
 mod period;
+#[cfg(test)]
+mod plain;
 mod reading;
 mod refusal;
 mod row;
@@ -12,6 +16,8 @@ mod search;
 mod tariff;
 mod tariffs;
 mod terms;
+#[cfg(test)]
+mod tests;
 
 pub use grant::Grant;
 pub use period::Period;

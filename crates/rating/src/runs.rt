@@ -7,5 +7,4 @@ ghost use Rattle.rating.specs.Runs.{CutsArePricedRight, RunsArePricedRight};
 pub fn runs_are_priced_right()
     ensures runs { (rows : List (List (List ℕ))) → RunsArePricedRight rows }
     ensures cuts { (rows : List (List (List ℕ))) → CutsArePricedRight rows }
-{
-}
+{}

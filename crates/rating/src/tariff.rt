@@ -1,4 +1,4 @@
-ghost use Rattle.std.specs.Prelude.{◌≡◌, ◌<◌, ◌≤◌, ◌*◌, ◌^◌, ◌∷◌, ◌++◌, [], Some, OnOk, length, option_copied, nat_lt, true};
+ghost use Rattle.std.specs.Prelude.{◌≡◌, ◌<◌, ◌≤◌, ◌*◌, ◌^◌, ◌∷◌, ◌++◌, [], Some, IfSome, OnOk, length, option_copied, nat_lt, true};
 ghost use Rattle.std.specs.List.{list_all};
 ghost use Rattle.std.specs.List.Sorted.{IsNonDecreasingBy};
 ghost use Rattle.rating.specs.declared.period.Period.{Period};
@@ -92,6 +92,17 @@ fn amount(amount: u64, price: u64) -> u128
     u128::from(amount) * u128::from(price)
 }
 
+/// What octets and seconds cost by the prices of a period.
+pub fn cost(period: Option<Period>, up: u64, down: u64, seconds: u32) -> u128
+    requires { IfSome period IsSmall }
+    ensures { result ≡ cost period up down seconds }
+{
+    match period {
+        Some(p) => amount(up, p.up) + amount(down, p.down) + amount(u64::from(seconds), p.seconds),
+        None => 0,
+    }
+}
+
 impl Tariff {
     pub fn new(alloc: Global, terms: Terms) -> Tariff
         ensures { result ≡ record { terms = terms; periods = [] } }
@@ -139,12 +150,8 @@ impl Tariff {
     pub fn price(&self, up: u64, down: u64, seconds: u32, first: Moment) -> u128
         ensures { result ≡ cost (period_at (hour_of first) self.now.periods) up down seconds }
     {
-        match period_at(self.periods.as_slice(), hour_of(first)) {
-            Some(p) => amount(up, p.up)
-                + amount(down, p.down)
-                + amount(u64::from(seconds), p.seconds),
-            None => 0,
-        }
+        let period = period_at(self.periods.as_slice(), hour_of(first));
+        cost(period, up, down, seconds)
     }
 
     /// The first switch strictly after a moment.
