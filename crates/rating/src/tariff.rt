@@ -1,4 +1,4 @@
-ghost use Rattle.std.specs.Prelude.{◌≡◌, ◌<◌, ◌≤◌, ◌*◌, ◌^◌, ◌∷◌, ◌++◌, [], Some, IfSome, OnOk, length, option_copied, nat_lt, true};
+ghost use Rattle.std.specs.Prelude.{◌≡◌, ◌<◌, ◌≤◌, ◌*◌, ◌^◌, ◌∷◌, ◌++◌, [], Some, IfSome, OnOk, length, max, option_copied, nat_lt, true};
 ghost use Rattle.std.specs.List.{list_all};
 ghost use Rattle.std.specs.List.Sorted.{IsNonDecreasingBy};
 ghost use Rattle.rating.specs.declared.period.Period.{Period};
@@ -59,6 +59,13 @@ fn unit_price(kind: Kind, period: &Period) -> u64
         Kind::Time => period.seconds,
         Kind::Offline => 0,
     }
+}
+
+/// The top price with one period more.
+fn higher_top(top: u64, kind: Kind, period: &Period) -> u64
+    ensures { result ≡ max top (unit_price kind period.now) }
+{
+    top.max(unit_price(kind, period))
 }
 
 /// Whether a kind may have these prices.
@@ -128,7 +135,7 @@ impl Tariff {
         ensures { OnOk result (self.new ≡ record { terms = self.old.terms; periods = self.old.periods ++ period ∷ [] }) }
     {
         self.periods.push(period)?;
-        self.top = self.top.max(unit_price(self.terms.kind, &period));
+        self.top = higher_top(self.top, self.terms.kind, &period);
         Ok(())
     }
 

@@ -16,5 +16,5 @@ invariant_of-self-2 c =
     record {
       hours = subst (IsNonDecreasingBy (λ (p : Period). p.hour)) (sym pushed) (sorted_more c.self.inside.periods c.args.period c.self.invariant.hours later);
       small = subst (All IsSmall) (sym pushed) (All-push IsSmall c.self.inside.periods c.args.period c.self.invariant.small c.requires.small);
-      top = c.max-self-inside.ensures ∙ ap (max c.self.inside.top) c.unit_price.ensures ∙ ap (λ n. max n (unit_price c.self.inside.terms.kind c.args.period)) c.self.invariant.top ∙ sym (top_more c.self.inside.terms.kind c.self.inside.periods c.args.period) ∙ ap (top_price c.self.inside.terms.kind) (sym pushed);
+      top = c.higher_top-self-inside.ensures ∙ ap (λ n. max n (unit_price c.self.inside.terms.kind c.args.period)) c.self.invariant.top ∙ sym (top_more c.self.inside.terms.kind c.self.inside.periods c.args.period) ∙ ap (top_price c.self.inside.terms.kind) (sym pushed);
     }
