@@ -11,3 +11,4 @@ pub mod Steady
 pub mod Ranges
 pub mod Costs
 pub mod Walk
+pub mod Reserves

@@ -48,7 +48,7 @@ group_small group (kind ∷ chunk ∷ threshold ∷ validity ∷ holding ∷ act
     and_then (number_of (2 ^ 32 - 1) group) _ IsInRange (λ g eg. and_then (kind_of kind) _ IsInRange (λ k ek. and_then (chunk_of k chunk) _ IsInRange (λ c ec. and_then (number_of (2 ^ 32 - 1) threshold) _ IsInRange (λ t et. and_then (number_of 604800 validity) _ IsInRange (λ v ev. and_then (number_of 604800 holding) _ IsInRange (λ h eh. and_then (action_of action) _ IsInRange (λ a ea. tt)))))))
 group_small group (a ∷ b ∷ c ∷ d ∷ e ∷ f ∷ g ∷ rest) = tt
 
-row_small : (fields : List (List ℕ)) → IfSome (tariff_row fields) IsInRange
+pub row_small : (fields : List (List ℕ)) → IfSome (tariff_row fields) IsInRange
 row_small [] = tt
 row_small (a ∷ []) = tt
 row_small (word ∷ group ∷ rest) = by (pointwise nat_eq word (codes "group")) (pointwise nat_eq word (codes "price")) (group_small group rest) (price_small group rest)

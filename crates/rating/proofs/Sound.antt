@@ -17,7 +17,7 @@ use Rattle.rating.specs.Caches.{is_known, AreFew, AreSound}
 use Rattle.rating.proofs.Rows.{groups_push, periods_push, terms_known, append_none}
 use Rattle.rating.proofs.Numbers.{lt_is, is_eq}
 
-both : (a b : Bool) → (a && b) ≡ true → (a ≡ true) × (b ≡ true)
+pub both : (a b : Bool) → (a && b) ≡ true → (a ≡ true) × (b ≡ true)
 both true b h = (refl, h)
 both false b h = absurd (true≢false (sym h))
 

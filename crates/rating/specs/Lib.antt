@@ -5,6 +5,7 @@ pub mod Price
 pub mod Switch
 pub mod Grant
 pub mod Runs
+pub mod Laws
 pub mod Caches
 pub mod Same
 pub mod Plain

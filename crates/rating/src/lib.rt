@@ -5,13 +5,13 @@
 mod cases;
 mod fields;
 mod grant;
+mod laws;
 mod period;
 #[cfg(test)]
 mod plain;
 mod reading;
 mod refusal;
 mod row;
-mod runs;
 mod search;
 mod tariff;
 mod tariffs;
@@ -20,8 +20,7 @@ mod terms;
 mod tests;
 
 pub use grant::Grant;
-pub use period::Period;
+pub use laws::{prices_are_bounded, prices_change_at_switches, reserves_suffice, runs_are_priced_right};
 pub use refusal::RatingRefusal;
-pub use runs::runs_are_priced_right;
 pub use tariffs::Tariffs;
 pub use terms::{Kind, Terms};

@@ -77,7 +77,8 @@ impl Tariffs {
 
     /// The rows that were read, in order.
     pub fn rows(&self) -> &List<List<Text>>
-        ensures { result.now ≡ self.now }
+        ensures rows { result.now ≡ self.now }
+        ensures good { first_bad [] self.now ≡ None }
     {
         &self.rows
     }
