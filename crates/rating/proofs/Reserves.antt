@@ -42,6 +42,7 @@ suits_push rows (Group g t) sound all h q =
     none_is : {X : Type 0} (o : Option X) → is_none o ≡ true → o ≡ None
     none_is None i = refl
     none_is (Some x) i = absurd (true≢false (sym i))
+
     by : (b : Bool) → Suits (if b then Some (record { terms = t; periods = [] }) else tariff_of rows q)
     by true = All-nil (λ (p : Period). suits t.kind p ≡ true)
     by false = all q

@@ -15,20 +15,17 @@ pub fn runs_are_priced_right()
 pub fn prices_change_at_switches()
     ensures steady { (rows : List (List (List ℕ))) → PricesChangeAtSwitches rows }
     ensures next { (rows : List (List (List ℕ))) → NextSwitchesAreFirst rows }
-{
-}
+{}
 
 /// A law of all tariffs; it does nothing. What is set aside for granted units is covered by the free money, and pays for them at any moment:
 /// usage of a group with quotas costs no more than its units at the top price (this product's own).
 pub fn reserves_suffice()
     ensures pay { (rows : List (List (List ℕ))) → ReservesSuffice rows }
     ensures covered { (rows : List (List (List ℕ))) → GrantsAreCovered rows }
-{
-}
+{}
 
 /// A law of all tariffs; it does nothing. Usage costs at most 2^32 grains for each octet and second, so that sums of prices stay within
 /// their types (this product's own).
 pub fn prices_are_bounded()
     ensures { (rows : List (List (List ℕ))) → PricesAreBounded rows }
-{
-}
+{}

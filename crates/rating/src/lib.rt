@@ -20,7 +20,9 @@ mod terms;
 mod tests;
 
 pub use grant::Grant;
-pub use laws::{prices_are_bounded, prices_change_at_switches, reserves_suffice, runs_are_priced_right};
+pub use laws::{
+    prices_are_bounded, prices_change_at_switches, reserves_suffice, runs_are_priced_right,
+};
 pub use refusal::RatingRefusal;
 pub use tariffs::Tariffs;
 pub use terms::{Kind, Terms};
