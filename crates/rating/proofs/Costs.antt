@@ -1,18 +1,15 @@
 -- The price of a run's sums at its first moment is the sum of its reports' prices.
-use Rattle.std.proofs.Common.{◌≡◌, ◌⊎◌, inl, inr, ⊎_elim, ℕ, zero, suc, ◌+◌, ◌-◌, ◌*◌, ◌<◌, ◌≤◌, Bool, true, false, List, [], ◌∷◌, ◌++◌, length, take, drop, get_or, Option, Some, None, All, Contains, sum_by, filter, nat_eq, ◌==◌, refl, sym, ◌∙◌, ap, subst, arith, rules, append_assoc}
-use Rattle.std.specs.List.Sorted.{IsNonDecreasingBy}
-use Rattle.std.proofs.lemmas.Bool.Decides.{nat_tests}
-use Rattle.std.proofs.lemmas.List.{take-append-le, drop-append-le}
+use Rattle.std.proofs.Common.{◌≡◌, ◌⊎◌, inl, inr, ⊎_elim, ℕ, zero, suc, ◌+◌, ◌-◌, ◌<◌, ◌≤◌, true, List, [], ◌∷◌, ◌++◌, length, take, drop, get_or, Option, Some, None, All, Contains, sum_by, ◌==◌, refl, sym, ◌∙◌, ap, subst, arith, append_assoc}
 use Rattle.std.proofs.lemmas.List.Elements.{All-head, All-tail, All-take, All-drop, All-weaker, filter_passes}
 use Rattle.std.proofs.lemmas.List.Sums.{sum_by-cons, sum_by-append}
 use Rattle.std.proofs.lemmas.List.Sorted.{IsNonDecreasingBy-take, IsNonDecreasingBy-drop}
 use Rattle.units.specs.declared.report.Report.{Report}
 use Rattle.units.specs.declared.report.Container.{Container}
-use Rattle.units.specs.Cut.{IsRun, IsCut, AreSummed, NoSwitchWithin, first_moment, last_moment, reports_of, containers_of}
+use Rattle.units.specs.Cut.{IsRun, IsCut, NoSwitchWithin, first_moment, last_moment, reports_of, containers_of}
 use Rattle.rating.specs.declared.period.Period.{Period}
 use Rattle.rating.specs.Tariff.{periods}
 use Rattle.rating.specs.Price.{hour_of, period_at, cost, price, report_price, container_price}
-use Rattle.rating.specs.Switch.{is_switch, switches}
+use Rattle.rating.specs.Switch.{is_switch}
 use Rattle.rating.specs.Runs.{AreInOrder, IsPricedRight, RunsArePricedRight, CutsArePricedRight, reports_price, containers_price}
 use Rattle.rating.proofs.Steady.{steady}
 use Rattle.rating.proofs.Ranges.{periods_of_day}

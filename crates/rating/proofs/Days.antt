@@ -1,16 +1,15 @@
 -- Moments and hours of the day: the first one strictly after a moment.
-use Rattle.std.proofs.Common.{◌≡◌, ◌⊎◌, inl, inr, ℕ, zero, suc, ◌+◌, ◌-◌, ◌*◌, ◌/◌, ◌%◌, ◌<◌, ◌≤◌, min, Bool, true, false, List, [], ◌∷◌, ◌++◌, length, get_or, nat_lt, nat_le, Option, Some, None, IsSome, IfSome, ◌↔◌, All, refl, sym, ◌∙◌, ap, subst, arith, rules}
+use Rattle.std.proofs.Common.{◌≡◌, ◌⊎◌, inl, inr, ℕ, zero, suc, ◌+◌, ◌*◌, ◌/◌, ◌<◌, ◌≤◌, min, Bool, true, false, List, [], ◌∷◌, length, get_or, nat_lt, nat_le, Option, Some, None, IsSome, IfSome, ◌↔◌, All, refl, sym, ◌∙◌, ap, arith}
 use mathlib.Core.Bool.{true≢false}
-use Rattle.std.specs.List.{AllWithin, slice_get}
+use Rattle.std.specs.List.{AllWithin}
 use Rattle.std.proofs.lemmas.Bool.{cases_lt}
 use Rattle.std.proofs.lemmas.Bool.Decides.{nat_tests}
 use Rattle.std.proofs.lemmas.List.{get_or_default}
-use Rattle.std.proofs.lemmas.Grind.{common_steps}
 use Rattle.std.specs.List.Sorted.{IsNonDecreasingBy}
 use Rattle.rating.specs.declared.period.Period.{Period}
 use Rattle.rating.specs.Row.{IsSmall}
 use Rattle.rating.specs.Price.{hour_of}
-use Rattle.rating.specs.Switch.{next_at, sooner, soonest, in_range, switch_after, switches, IsFirstSwitch, NoSwitchBefore}
+use Rattle.rating.specs.Switch.{next_at, sooner, soonest, in_range, switch_after}
 
 -- the day and the hour of a moment
 pub record OnDay (moment : ℕ) : Type 0 where

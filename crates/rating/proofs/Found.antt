@@ -1,10 +1,8 @@
 -- The period that holds an hour, found by its place among hours that ascend.
-use Rattle.std.proofs.Common.{◌≡◌, ℕ, zero, suc, ◌+◌, ◌-◌, ◌<◌, ◌≤◌, Bool, true, false, List, [], ◌∷◌, ◌++◌, length, take, get_or, nat_lt, nat_le, Option, Some, None, All, filter, refl, sym, ◌∙◌, ap, subst, arith, rules}
+use Rattle.std.proofs.Common.{◌≡◌, ℕ, zero, suc, ◌-◌, ◌<◌, ◌≤◌, Bool, true, false, List, [], ◌∷◌, length, take, get_or, nat_le, Some, filter, refl, sym, ◌∙◌, ap, arith}
 use Rattle.std.specs.List.{AllWithin, slice_get}
 use Rattle.std.specs.Option.{option_or}
-use Rattle.std.proofs.lemmas.Bool.Decides.{nat_tests}
-use Rattle.std.proofs.lemmas.Grind.{common_steps}
-use Rattle.std.proofs.lemmas.Option.{slice_get-get_or, slice_get_past}
+use Rattle.std.proofs.lemmas.Option.{slice_get-get_or}
 use Rattle.rating.specs.declared.period.Period.{Period}
 use Rattle.rating.specs.Price.{last_of, period_at}
 use Rattle.rating.proofs.Numbers.{le_is, gt_is}

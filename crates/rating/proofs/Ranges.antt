@@ -1,6 +1,5 @@
 -- The ranges of the rows of a tariff.
-use Rattle.std.proofs.Common.{◌≡◌, ℕ, zero, suc, ◌+◌, ◌-◌, ◌^◌, ◌<◌, ◌≤◌, ◌&&◌, Bool, true, false, List, [], ◌∷◌, length, get_or, nat_le, Option, Some, None, All, IfSome, if◌then◌else◌, option_and_then, option_map, codes, nat_eq, refl, sym, ◌∙◌, ap, subst, arith, rules}
-use mathlib.Core.Bool.{true≢false}
+use Rattle.std.proofs.Common.{◌≡◌, ℕ, ◌-◌, ◌^◌, ◌≤◌, ◌&&◌, Bool, true, false, List, [], ◌∷◌, nat_le, Option, Some, None, All, IfSome, if◌then◌else◌, option_and_then, option_map, codes, nat_eq, refl, arith}
 use Rattle.std.specs.List.{filter_map, cons_option}
 use Rattle.std.specs.Cmp.Lexicographic.{pointwise}
 use Rattle.std.specs.Str.Parse.{digits_value}
@@ -12,7 +11,7 @@ use Rattle.rating.specs.declared.period.Period.{Period}
 use Rattle.rating.specs.declared.row.TariffRow.{TariffRow}
 use Rattle.rating.specs.declared.row.TariffRow.TheVariants.{Group, Price}
 use Rattle.rating.specs.Row.{IsInRange, IsSmall, kind_of, chunk_of, action_of, group_row, price_row, tariff_row}
-use Rattle.rating.specs.Tariff.{GroupTariff, tariff, tariff_of, tariff_rows, terms_of, periods, periods_by, periods_of, period_in}
+use Rattle.rating.specs.Tariff.{tariff_rows, terms_of, periods, periods_by, periods_of, period_in}
 use Rattle.rating.proofs.Steady.{AreOfDay}
 
 and_then : {A B : Type 0} (o : Option A) (f : A → Option B) (P : B → Type 0) → ((x : A) → o ≡ Some x → IfSome (f x) P) → IfSome (option_and_then f o) P

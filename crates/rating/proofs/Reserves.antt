@@ -1,25 +1,24 @@
 -- Usage of a group with quotas costs no more than its units at the top price, where no row is bad.
-use Rattle.std.proofs.Common.{◌≡◌, ◌⊎◌, inl, inr, ⊎_elim, ℕ, zero, suc, ◌+◌, ◌-◌, ◌*◌, ◌<◌, ◌≤◌, ◌==◌, ◌&&◌, ◌/◌, ◌^◌, min, max, Bool, true, false, List, [], ◌∷◌, ◌++◌, length, get_or, nat_lt, nat_le, Option, Some, None, All, IfSome, is_none, if◌then◌else◌, option_map, filter, refl, sym, ◌∙◌, ap, subst, arith, rules, append_assoc, mul-le-mul_left}
+use Rattle.std.proofs.Common.{◌≡◌, ℕ, zero, suc, ◌+◌, ◌*◌, ◌<◌, ◌≤◌, ◌==◌, ◌/◌, ◌^◌, min, Bool, true, false, List, [], ◌∷◌, ◌++◌, length, get_or, nat_lt, nat_le, Option, Some, None, All, IfSome, is_none, if◌then◌else◌, filter, refl, sym, ◌∙◌, ap, subst, arith, append_assoc, mul-le-mul_left}
 use Rattle.std.proofs.Math.Nat.{mul-div-le}
 use mathlib.Core.Bool.{true≢false}
-use Rattle.std.specs.List.{list_all, filter_map, cons_option}
+use Rattle.std.specs.List.{list_all, cons_option}
 use Rattle.std.specs.Option.{option_or}
-use Rattle.std.proofs.lemmas.List.Elements.{All-nil, All-head, All-tail, All-push, All-filter, All-weaker}
+use Rattle.std.proofs.lemmas.List.Elements.{All-nil, All-head, All-tail, All-push, All-filter}
 use Rattle.rating.specs.declared.terms.Kind.{Kind}
 use Rattle.rating.specs.declared.terms.Kind.TheVariants.{Volume, Time, Offline}
-use Rattle.rating.specs.declared.terms.Terms.{Terms}
 use Rattle.rating.specs.declared.period.Period.{Period}
 use Rattle.rating.specs.declared.row.TariffRow.{TariffRow}
 use Rattle.rating.specs.declared.row.TariffRow.TheVariants.{Group, Price}
 use Rattle.rating.specs.Row.{tariff_row, IsInRange, IsSmall}
-use Rattle.rating.specs.Tariff.{GroupTariff, extended, tariff, tariff_of, tariff_rows, terms_of, periods_of, periods, periods_by}
-use Rattle.rating.specs.Grammar.{suits, may_extend, may_extend_some, may_follow, first_bad, read_on, is_complete, groups_of}
+use Rattle.rating.specs.Tariff.{GroupTariff, extended, tariff, tariff_of, tariff_rows, terms_of, periods, periods_by}
+use Rattle.rating.specs.Grammar.{suits, may_extend_some, may_follow, first_bad, read_on, groups_of}
 use Rattle.rating.specs.Price.{hour_of, last_of, period_at, cost, price}
 use Rattle.units.specs.declared.answer.Code.TheVariants.{NotApplicable}
 use Rattle.rating.specs.Grant.{asked, granted, is_managed, no_quota, quota, top_price, unit_price, wish_of}
 use Rattle.rating.specs.Laws.{units_used, GrantsAreCovered, PricesAreBounded}
 use Rattle.rating.specs.Caches.{AreSound}
-use Rattle.rating.proofs.Rows.{tariff_group, tariff_price, append_none, no_terms}
+use Rattle.rating.proofs.Rows.{tariff_group, tariff_price, append_none}
 use Rattle.rating.proofs.Sound.{both, sound_more, sound_none}
 use Rattle.rating.proofs.Ranges.{row_small, periods_small}
 use Rattle.rating.proofs.Numbers.{is_eq}

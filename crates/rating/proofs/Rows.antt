@@ -1,19 +1,16 @@
 -- One row more: the tariffs and the groups of the rows that were read.
-use Rattle.std.proofs.Common.{◌≡◌, ◌⊎◌, inl, inr, ⊎_elim, ℕ, zero, suc, ◌+◌, ◌-◌, ◌*◌, ◌<◌, ◌≤◌, ◌==◌, ◌&&◌, ◌||◌, Bool, true, false, List, [], ◌∷◌, ◌++◌, length, get_or, nat_lt, nat_le, nat_eq, Option, Some, None, is_none, is_some, if◌then◌else◌, option_map, refl, sym, ◌∙◌, ap, subst, arith, rules}
+use Rattle.std.proofs.Common.{◌≡◌, ℕ, ◌==◌, ◌&&◌, ◌||◌, Bool, true, false, List, [], ◌∷◌, ◌++◌, Option, Some, None, is_none, is_some, if◌then◌else◌, option_map, refl, sym, ◌∙◌, ap}
 use mathlib.Core.Bool.{true≢false}
 use Rattle.std.specs.List.{list_all, list_any, filter_map, cons_option, slice_get}
 use Rattle.std.specs.Option.{option_or}
-use Rattle.std.proofs.lemmas.Bool.Decides.{nat_tests}
 use Rattle.std.proofs.lemmas.List.Elements.{filter_map-append}
-use Rattle.std.proofs.lemmas.List.Folds.{list_all-append}
 use Rattle.rating.specs.declared.terms.Terms.{Terms}
 use Rattle.rating.specs.declared.period.Period.{Period}
 use Rattle.rating.specs.declared.row.TariffRow.{TariffRow}
 use Rattle.rating.specs.declared.row.TariffRow.TheVariants.{Group, Price}
-use Rattle.rating.specs.Row.{IsInRange, IsSmall}
-use Rattle.rating.specs.Tariff.{GroupTariff, extended, tariff_of, terms_of, periods_of, periods_by, terms_in, period_in}
-use Rattle.rating.specs.Grammar.{groups_of, group_in, suits, may_extend, may_extend_some, may_follow}
-use Rattle.rating.specs.Caches.{is_known, AreFew, AreSound}
+use Rattle.rating.specs.Tariff.{GroupTariff, extended, tariff_of, terms_of, periods_of, terms_in, period_in}
+use Rattle.rating.specs.Grammar.{groups_of, group_in}
+use Rattle.rating.specs.Caches.{is_known, AreSound}
 use Rattle.rating.proofs.Numbers.{is_eq}
 
 first_append : {X : Type 0} (xs ys : List X) → slice_get (xs ++ ys) 0 ≡ option_or (slice_get xs 0) (slice_get ys 0)

@@ -1,18 +1,16 @@
 -- Rows that were read stay sound with one row more, and are few.
-use Rattle.std.proofs.Common.{◌≡◌, ◌⊎◌, inl, inr, ⊎_elim, ℕ, zero, suc, ◌+◌, ◌-◌, ◌*◌, ◌<◌, ◌≤◌, ◌==◌, ◌&&◌, ◌||◌, Bool, true, false, List, [], ◌∷◌, ◌++◌, length, get_or, nat_lt, nat_le, nat_eq, Option, Some, None, All, is_none, is_some, if◌then◌else◌, option_map, refl, sym, ◌∙◌, ap, subst, arith, rules, length-append}
+use Rattle.std.proofs.Common.{◌≡◌, ℕ, ◌+◌, ◌*◌, ◌≤◌, ◌==◌, ◌&&◌, ◌||◌, Bool, true, false, List, [], ◌∷◌, ◌++◌, length, nat_lt, Option, Some, None, is_none, is_some, if◌then◌else◌, option_map, refl, sym, ◌∙◌, ap, subst, arith, length-append}
 use mathlib.Core.Bool.{true≢false}
-use Rattle.std.specs.List.{list_all, list_any, filter_map, cons_option, slice_get, sum_by}
+use Rattle.std.specs.List.{list_all, list_any, filter_map, cons_option}
 use Rattle.std.proofs.lemmas.Bool.Decides.{nat_tests}
-use Rattle.std.proofs.lemmas.List.Elements.{filter_map-append}
 use Rattle.std.proofs.lemmas.List.Folds.{list_all-append}
-use Rattle.std.proofs.lemmas.List.Sums.{sum_by-cons, sum_by-le}
 use Rattle.rating.specs.declared.terms.Terms.{Terms}
 use Rattle.rating.specs.declared.period.Period.{Period}
 use Rattle.rating.specs.declared.row.TariffRow.{TariffRow}
 use Rattle.rating.specs.declared.row.TariffRow.TheVariants.{Group, Price}
-use Rattle.rating.specs.Row.{IsInRange, IsSmall}
-use Rattle.rating.specs.Tariff.{GroupTariff, tariff_of, terms_of, periods_of, period_in}
-use Rattle.rating.specs.Grammar.{groups_of, group_in, suits, may_extend, may_extend_some, may_follow}
+use Rattle.rating.specs.Row.{IsInRange}
+use Rattle.rating.specs.Tariff.{terms_of, periods_of}
+use Rattle.rating.specs.Grammar.{groups_of, group_in, suits, may_extend_some, may_follow}
 use Rattle.rating.specs.Caches.{is_known, AreFew, AreSound}
 use Rattle.rating.proofs.Rows.{groups_push, periods_push, terms_known, append_none}
 use Rattle.rating.proofs.Numbers.{lt_is, is_eq}

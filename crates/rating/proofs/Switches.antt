@@ -1,5 +1,5 @@
 -- The first listed hour strictly after a moment is the first switch.
-use Rattle.std.proofs.Common.{◌≡◌, ◌⊎◌, inl, inr, ℕ, zero, suc, ◌+◌, ◌-◌, ◌*◌, ◌/◌, ◌%◌, ◌<◌, ◌≤◌, ◌==◌, ◌&&◌, ◌||◌, min, Bool, true, false, List, [], ◌∷◌, length, get_or, nat_lt, nat_le, nat_eq, Option, Some, None, All, if◌then◌else◌, ⊎_elim, refl, sym, ◌∙◌, ap, subst, arith, rules}
+use Rattle.std.proofs.Common.{◌≡◌, ◌⊎◌, inl, inr, ℕ, suc, ◌%◌, ◌<◌, ◌≤◌, ◌==◌, ◌&&◌, ◌||◌, Bool, true, false, List, [], ◌∷◌, length, nat_le, Option, Some, None, All, if◌then◌else◌, ⊎_elim, refl, sym, ◌∙◌, ap, subst, arith}
 use mathlib.Core.Bool.{true≢false}
 use Rattle.std.specs.List.{list_any}
 use Rattle.std.proofs.lemmas.Bool.{cases_lt}
@@ -8,7 +8,7 @@ use Rattle.rating.specs.declared.period.Period.{Period}
 use Rattle.rating.specs.Row.{IsSmall}
 use Rattle.rating.specs.Price.{hour_of}
 use Rattle.rating.specs.Switch.{next_at, sooner, soonest, in_range, switch_after, switches, IsFirstSwitch, NoSwitchBefore}
-use Rattle.rating.proofs.Days.{on_day, OnDay, comes_today, comes_tomorrow}
+use Rattle.rating.proofs.Days.{on_day, comes_today, comes_tomorrow}
 use Rattle.rating.proofs.Numbers.{is_eq, eq_is}
 
 -- the moment at which an hour next begins

@@ -1,14 +1,13 @@
 -- A reading stays right with one row more.
-use Rattle.std.proofs.Common.{◌≡◌, ℕ, ◌+◌, ◌<◌, ◌≤◌, ◌==◌, ◌&&◌, Bool, true, false, List, [], ◌∷◌, ◌++◌, length, nat_lt, nat_eq, Option, Some, None, is_none, if◌then◌else◌, refl, sym, ◌∙◌, ap, subst, arith, rules, length-append}
+use Rattle.std.proofs.Common.{◌≡◌, ℕ, ◌+◌, ◌<◌, ◌≤◌, ◌==◌, true, [], ◌∷◌, ◌++◌, length, nat_lt, nat_eq, Some, None, is_none, if◌then◌else◌, refl, sym, ◌∙◌, ap, subst, arith, length-append}
 use Rattle.std.specs.HashMap.{get}
 use Rattle.std.proofs.lemmas.Bool.Decides.{nat_tests}
 use Rattle.rating.specs.declared.terms.Terms.{Terms}
 use Rattle.rating.specs.declared.period.Period.{Period}
-use Rattle.rating.specs.declared.row.TariffRow.{TariffRow}
 use Rattle.rating.specs.declared.row.TariffRow.TheVariants.{Group, Price}
 use Rattle.rating.specs.declared.reading.Reading.TheInside.{Inside}
-use Rattle.rating.specs.Row.{IsInRange, IsSmall}
-use Rattle.rating.specs.Tariff.{GroupTariff, extended, tariff_of, terms_of}
+use Rattle.rating.specs.Row.{IsSmall}
+use Rattle.rating.specs.Tariff.{extended, tariff_of, terms_of}
 use Rattle.rating.specs.Grammar.{groups_of, may_extend_some, may_follow}
 use Rattle.rating.specs.Caches.{AreSound, IsRead}
 use Rattle.rating.proofs.Rows.{groups_push, append_none, tariff_group, tariff_price, no_terms}

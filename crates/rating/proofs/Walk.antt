@@ -1,16 +1,14 @@
 -- One row more of the plain walk over all rows.
-use Rattle.std.proofs.Common.{◌≡◌, ℕ, zero, suc, ◌+◌, ◌<◌, ◌≤◌, ◌||◌, Bool, true, false, cond, List, [], ◌∷◌, ◌++◌, length, take, get_or, nat_le, Option, Some, None, is_some, option_and_then, if◌then◌else◌, filter, All, IfSome, refl, sym, ◌∙◌, ap, subst, arith, rules, add-one}
-use Rattle.std.specs.List.{filter_map, cons_option}
+use Rattle.std.proofs.Common.{◌≡◌, ℕ, ◌+◌, ◌<◌, ◌||◌, Bool, true, false, cond, List, [], ◌∷◌, ◌++◌, length, take, get_or, nat_le, Option, Some, None, is_some, option_and_then, if◌then◌else◌, filter, IfSome, refl, sym, ◌∙◌, ap, add-one}
+use Rattle.std.specs.List.{cons_option}
 use Rattle.std.specs.Option.{option_or}
 use Rattle.std.proofs.Math.Seq.{take-suc}
-use Rattle.std.proofs.lemmas.Bool.Decides.{nat_tests}
 use Rattle.std.proofs.lemmas.List.Elements.{filter_map-append, filter-append}
-use Rattle.rating.specs.declared.terms.Terms.{Terms}
 use Rattle.rating.specs.declared.period.Period.{Period}
 use Rattle.rating.specs.declared.row.TariffRow.{TariffRow}
 use Rattle.rating.specs.Row.{IsSmall, tariff_row}
-use Rattle.rating.specs.Tariff.{tariff_rows, terms_of, terms_in, periods_of, period_in, periods_by, periods, tariff}
-use Rattle.rating.specs.Price.{hour_of, last_of, period_at, price, cost}
+use Rattle.rating.specs.Tariff.{tariff_rows, terms_of, terms_in, periods_of, period_in}
+use Rattle.rating.specs.Price.{last_of}
 use Rattle.rating.specs.Plain.{held_by}
 use Rattle.rating.proofs.Rows.{terms_push, periods_push, append_none}
 use Rattle.rating.proofs.Numbers.{le_is}

@@ -1,5 +1,5 @@
 -- What is kept beside the rows for speed; no public clause speaks of it.
-use Rattle.std.specs.Prelude.{◌≡◌, ℕ, ◌≤◌, ◌==◌, nat_lt, nat_eq, Bool, true, List, [], Option, None, All, length}
+use Rattle.std.specs.Prelude.{◌≡◌, ℕ, ◌≤◌, ◌==◌, nat_lt, nat_eq, Bool, true, List, [], None, All, length}
 use Rattle.std.specs.List.{list_all, list_any}
 use Rattle.std.specs.HashMap.{get}
 use Rattle.std.specs.List.Sorted.{IsNonDecreasingBy}

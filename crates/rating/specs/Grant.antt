@@ -1,11 +1,10 @@
--- What a rating group is granted (quota management: TS 32.290, 5.4.2; the linear reserve at the top price is this product's own).
+-- What a rating group is granted (result codes: TS 32.291, 6.1.6.3.14; the quota and what is set aside for it at the top price are this product's own).
 use Rattle.std.specs.Prelude.{ℕ, ◌*◌, ◌/◌, ◌==◌, min, max, nat_lt, Bool, true, false, List, [], ◌∷◌, Option, Some, None, if◌then◌else◌}
 use Rattle.units.specs.declared.answer.Code.{Code}
-use Rattle.units.specs.declared.answer.Code.TheVariants.{Success, Denied, NotApplicable, LimitReached, RatingFailed}
+use Rattle.units.specs.declared.answer.Code.TheVariants.{Success, NotApplicable, LimitReached, RatingFailed}
 use Rattle.units.specs.declared.request.Ask.{Ask}
 use Rattle.rating.specs.declared.terms.Kind.{Kind}
 use Rattle.rating.specs.declared.terms.Kind.TheVariants.{Volume, Time, Offline}
-use Rattle.rating.specs.declared.terms.Terms.{Terms}
 use Rattle.rating.specs.declared.period.Period.{Period}
 use Rattle.rating.specs.declared.grant.Grant.{Grant}
 use Rattle.rating.specs.Tariff.{GroupTariff, tariff}

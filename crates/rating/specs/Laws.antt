@@ -1,5 +1,5 @@
 -- Laws of tariffs that the layers above stand on (this product's own; rating after TS 32.290).
-use Rattle.std.specs.Prelude.{◌≡◌, ℕ, ◌+◌, ◌*◌, ◌^◌, ◌≤◌, true, List, [], Option, Some, None}
+use Rattle.std.specs.Prelude.{◌≡◌, ℕ, ◌+◌, ◌*◌, ◌^◌, ◌≤◌, true, List, [], Some, None}
 use Rattle.units.specs.Cut.{NoSwitchWithin}
 use Rattle.units.specs.declared.request.Ask.{Ask}
 use Rattle.rating.specs.declared.terms.Kind.{Kind}

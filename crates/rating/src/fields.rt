@@ -6,7 +6,7 @@ use crate::terms::Kind;
 use rows::number;
 use units::{Action, Text};
 
-/// The number in a field, at most 2^32 - 1.
+/// The number in a field, where it is a numeral of at most `most`.
 pub fn small_number(most: u32, field: &Text) -> Option<u32>
     ensures value { result ≡ number_of most field.now }
     ensures range { IfSome result (λ n. n ≤ most) }
@@ -14,7 +14,7 @@ pub fn small_number(most: u32, field: &Text) -> Option<u32>
     Some(number(u64::from(most), field.as_str().as_bytes())? as u32)
 }
 
-/// The number in a field.
+/// The same of 64 bits.
 pub fn large_number(most: u64, field: &Text) -> Option<u64>
     ensures value { result ≡ number_of most field.now }
     ensures range { IfSome result (λ n. n ≤ most) }

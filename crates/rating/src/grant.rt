@@ -3,7 +3,7 @@ ghost use Rattle.rating.specs.Grant.{no_quota, quota, units_of, wish_of};
 
 use units::{Code, Plain};
 
-/// What a rating group is granted (TS 32.290, 5.4.2; the reserve is this product's own).
+/// What a rating group is granted (multiple unit information: TS 32.291, 6.1.6.2.1.8; the reserve is this product's own).
 #[derive(Clone, Copy, PartialEq, Eq, Debug)]
 pub struct Grant {
     /// SUCCESS, or why there is no quota.

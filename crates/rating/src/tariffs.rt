@@ -97,7 +97,8 @@ impl Tariffs {
         Some(self.tariff(group)?.terms())
     }
 
-    /// The price, in grains, of octets up and down and of seconds of a rating group, by its prices at the first moment; 0 for an unknown group (TS 32.290, rating).
+    /// The price, in grains (10^-12 of a currency unit), of octets up and down and of seconds of a rating group, by its prices at the first
+    /// moment; 0 for an unknown group (TS 32.290, rating).
     pub fn price(&self, group: u32, up: u64, down: u64, seconds: u32, first: Moment) -> u128
         ensures { result ≡ price self.now group up down seconds first }
     {
@@ -107,8 +108,8 @@ impl Tariffs {
         }
     }
 
-    /// The first listed hour of a rating group strictly after a moment: the tariff time change. `None` exactly where the group is unknown, has one
-    /// period, or has no such moment before the end of time (TS 32.255, 5.1.5).
+    /// The first listed hour of a rating group strictly after a moment. `None` exactly where the group is unknown, has one period, or has no
+    /// such moment up to the last one (tariff time change: TS 32.291, 6.1.6.2.1.9).
     pub fn next_switch(&self, group: u32, after: Moment) -> Option<Moment>
         ensures value { result ≡ next_switch self.now group after }
         ensures first { IsFirstSwitch (is_switch self.now group) after result }
@@ -117,7 +118,9 @@ impl Tariffs {
     }
 
     /// What a rating group that asks is granted out of free money, in grains: RATING_FAILED where it has no tariff,
-    /// QUOTA_MANAGEMENT_NOT_APPLICABLE where it is offline, QUOTA_LIMIT_REACHED where the units are 0, and SUCCESS (TS 32.290, 5.4.2).
+    /// QUOTA_MANAGEMENT_NOT_APPLICABLE where it is offline, QUOTA_LIMIT_REACHED where the units are 0, and else SUCCESS (result codes:
+    /// TS 32.291, 6.1.6.3.14). The units are the lesser of the chunk and the amount asked, and at a top price above 0 at most what the free
+    /// money buys; what is set aside is their top price (this product's own).
     pub fn grant(&self, group: u32, free: u128, ask: &Ask) -> Grant
         ensures { result ≡ grant self.now group free ask.now }
     {

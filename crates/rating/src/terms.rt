@@ -1,6 +1,6 @@
 use units::{Action, Plain};
 
-/// What the quotas of a rating group count (TS 32.255, 5.1.5).
+/// What the quotas of a rating group count (granted unit and offline charging: TS 32.291, 6.1.6.2.1.9 and 6.1.6.3.14).
 #[derive(Clone, Copy, PartialEq, Eq, Debug)]
 pub enum Kind {
     /// Octets, up and down together.
@@ -11,7 +11,7 @@ pub enum Kind {
     Offline,
 }
 
-/// What a tariff says of the quotas of a rating group (TS 32.290, 5.4; the ranges are this product's own).
+/// What a tariff says of the quotas of a rating group (multiple unit information: TS 32.291, 6.1.6.2.1.8; the ranges are this product's own).
 #[derive(Clone, Copy, PartialEq, Eq, Debug)]
 pub struct Terms {
     /// What its quotas count.

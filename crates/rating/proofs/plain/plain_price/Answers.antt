@@ -1,5 +1,4 @@
-use Rattle.std.proofs.Common.{◌≡◌, Option, option_and_then, sym, ◌∙◌, ap, rules}
-use Rattle.rating.specs.declared.row.TariffRow.{TariffRow}
+use Rattle.std.proofs.Common.{◌≡◌, rules}
 use Rattle.rating.specs.Row.{tariff_row}
 use Rattle.rating.proofs.Walk.{walked_on}
 use Rattle.rating.proofs.plain.plain_price.Goals as goal

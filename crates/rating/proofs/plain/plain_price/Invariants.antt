@@ -1,4 +1,4 @@
-use Rattle.std.proofs.Common.{◌≡◌, IfSome}
+use Rattle.std.proofs.Common.{IfSome}
 use Rattle.rating.specs.Row.{IsSmall}
 use Rattle.rating.proofs.Walk.{Walked}
 use Rattle.rating.proofs.plain.plain_price.Given as goal

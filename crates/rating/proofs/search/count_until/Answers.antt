@@ -1,4 +1,4 @@
-use Rattle.std.proofs.Common.{◌≡◌, ℕ, nat_le, leb, leb-true, leb-false, true, false, arith, rules}
+use Rattle.std.proofs.Common.{leb, leb-true, leb-false, rules}
 use Rattle.std.proofs.lemmas.List.Sorted.{IsPartitionPoint-from_clause, IsPartitionedBy-leb}
 use Rattle.rating.specs.declared.period.Period.{Period}
 use Rattle.rating.proofs.search.count_until.Goals as goal

@@ -1,6 +1,4 @@
-use Rattle.std.proofs.Common.{◌≡◌, ◌-◌, sym, ◌∙◌, ap, subst, arith, rules, suc, ◌<◌, length}
-use Rattle.std.specs.List.{AllWithin}
-use Rattle.rating.specs.declared.period.Period.{Period}
+use Rattle.std.proofs.Common.{◌≡◌, ◌-◌, ◌∙◌, arith}
 use Rattle.rating.proofs.Found.{held_by_low, held_by_last}
 use Rattle.rating.proofs.search.period_at.Goals as goal
 

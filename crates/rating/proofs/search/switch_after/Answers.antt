@@ -1,8 +1,4 @@
-use Rattle.std.proofs.Common.{◌≡◌, ◌+◌, ◌*◌, ◌/◌, ℕ, Some, get_or, sym, ◌∙◌, ap, subst, arith, rules}
-use Rattle.std.specs.List.{AllWithin}
-use Rattle.rating.specs.declared.period.Period.{Period}
-use Rattle.rating.specs.Switch.{soonest}
-use Rattle.rating.specs.Price.{hour_of}
+use Rattle.std.proofs.Common.{◌+◌, Some, sym, ◌∙◌, ap, arith}
 use Rattle.rating.proofs.Days.{soonest_today, soonest_tomorrow, switch_is}
 use Rattle.rating.proofs.search.switch_after.Goals as goal
 

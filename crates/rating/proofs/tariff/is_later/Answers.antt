@@ -1,4 +1,4 @@
-use Rattle.std.proofs.Common.{sym, ◌∙◌, ap, rules}
+use Rattle.std.proofs.Common.{sym}
 use Rattle.rating.proofs.Hours.{later_by_last}
 use Rattle.rating.proofs.tariff.is_later.Goals as goal
 

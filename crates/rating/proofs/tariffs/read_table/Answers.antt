@@ -1,5 +1,4 @@
-use Rattle.std.proofs.Common.{◌≡◌, ◌++◌, ◌∷◌, [], Some, None, Option, List, if◌then◌else◌, ◌∙◌, sym, rules}
-use Rattle.rating.specs.declared.row.TariffRow.{TariffRow}
+use Rattle.std.proofs.Common.{◌≡◌, ◌++◌, ◌∷◌, [], Some, None, if◌then◌else◌, ◌∙◌, rules}
 use Rattle.rating.specs.Row.{tariff_row}
 use Rattle.rating.specs.Grammar.{may_follow}
 use Rattle.rating.proofs.Steps.{read_step}

@@ -1,4 +1,4 @@
-use Rattle.std.proofs.Common.{ap, arith, rules, length}
+use Rattle.std.proofs.Common.{arith}
 use Rattle.rating.proofs.Sound.{few_rows}
 use Rattle.rating.proofs.reading.Reading.next_row.Goals as goal
 

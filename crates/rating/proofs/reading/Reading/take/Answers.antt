@@ -1,4 +1,4 @@
-use Rattle.std.proofs.Common.{◌≡◌, ◌++◌, ◌∷◌, ◌+◌, ◌==◌, nat_eq, [], List, ◌∙◌, sym, ap, subst, refl, rules, arith, Ok, true, leb-true}
+use Rattle.std.proofs.Common.{◌≡◌, ◌++◌, ◌∷◌, nat_eq, [], ◌∙◌, sym, ap, subst, rules, arith, Ok, true, leb-true}
 use Rattle.std.specs.HashMap.{get}
 use Rattle.rating.specs.Row.{IsInRange}
 use Rattle.rating.proofs.Taken.{read_group, read_price}

@@ -1,4 +1,4 @@
-use Rattle.std.proofs.Common.{◌≡◌, ◌++◌, ◌∷◌, [], max, nat_lt, true, sym, ◌∙◌, ap, subst, rules, List}
+use Rattle.std.proofs.Common.{◌≡◌, ◌++◌, ◌∷◌, [], max, nat_lt, true, sym, ◌∙◌, ap, subst, rules}
 use Rattle.std.specs.List.{list_all, All}
 use Rattle.std.specs.List.Sorted.{IsNonDecreasingBy}
 use Rattle.std.proofs.lemmas.List.Elements.{All-push}

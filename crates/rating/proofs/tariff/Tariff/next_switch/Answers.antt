@@ -1,8 +1,7 @@
-use Rattle.std.proofs.Common.{◌≡◌, ◌∙◌, ap, sym, subst, rules, All, List, ℕ}
-use Rattle.rating.specs.declared.period.Period.{Period}
+use Rattle.std.proofs.Common.{◌≡◌, ap, subst, rules, All}
 use Rattle.rating.specs.Row.{IsSmall}
 use Rattle.rating.specs.Tariff.{GroupTariff}
-use Rattle.rating.specs.Switch.{switch_after, switches, IsFirstSwitch}
+use Rattle.rating.specs.Switch.{switch_after}
 use Rattle.rating.proofs.Switches.{first_switch}
 use Rattle.rating.proofs.tariff.Tariff.next_switch.Goals as goal
 
