@@ -8,7 +8,7 @@ use Rattle.units.specs.declared.report.Container.{Container}
 use Rattle.units.specs.Cut.{IsRun, IsCut, NoSwitchWithin, first_moment, last_moment, reports_of, containers_of}
 use Rattle.rating.specs.declared.period.Period.{Period}
 use Rattle.rating.specs.Tariff.{periods}
-use Rattle.rating.specs.Price.{hour_of, period_at, cost, price, report_price, container_price}
+use Rattle.rating.specs.Price.{hour_of, in_time, period_at, cost, price, report_price, container_price}
 use Rattle.rating.specs.Switch.{is_switch}
 use Rattle.rating.specs.Runs.{AreInOrder, IsPricedRight, RunsArePricedRight, CutsArePricedRight, reports_price, containers_price}
 use Rattle.rating.proofs.Steady.{steady}
@@ -54,12 +54,12 @@ first_moment_at (r ∷ run) d l = refl
 
 -- each report of a run has the prices of the first moment
 same_prices : (rows : List (List (List ℕ))) (group : ℕ) (run : List Report) → All (λ (r : Report). r.group ≡ group) run → AreInOrder run → NoSwitchWithin (is_switch rows group) (first_moment run) (last_moment run)
-    → All (λ r. report_price rows r ≡ cost (period_at (hour_of (first_moment run)) (periods rows group)) r.up r.down r.seconds) run
+    → All (λ r. report_price rows r ≡ cost (period_at (hour_of (in_time (first_moment run))) (periods rows group)) r.up r.down r.seconds) run
 same_prices rows group run groups order none k d l =
     let after : first_moment run ≤ (get_or run k d).moment = let o = order 0 k d (omega arith) l in let f = first_moment_at run d (omega arith) in omega (arith, o, f) in
     let until : (get_or run k d).moment ≤ last_moment run = let o = order k (length run - 1) d (omega arith) (omega arith) in let f = last_moment_at run (length run - 1) d (omega arith) in omega (arith, o, f) in
     let held = steady (periods rows group) (first_moment run) (get_or run k d).moment (periods_of_day rows group) after (λ m a b. none m a (omega (arith, b, until))) in
-    let one : report_price rows (get_or run k d) ≡ cost (period_at (hour_of (get_or run k d).moment) (periods rows group)) (get_or run k d).up (get_or run k d).down (get_or run k d).seconds =
+    let one : report_price rows (get_or run k d) ≡ cost (period_at (hour_of (in_time (get_or run k d).moment)) (periods rows group)) (get_or run k d).up (get_or run k d).down (get_or run k d).seconds =
     ap (λ g. price rows g (get_or run k d).up (get_or run k d).down (get_or run k d).seconds (get_or run k d).moment) (groups k d l) in
     one ∙ ap (λ o. cost o (get_or run k d).up (get_or run k d).down (get_or run k d).seconds) held
 
@@ -67,8 +67,8 @@ same_prices rows group run groups order none k d l =
 pub run_price : (rows : List (List (List ℕ))) → RunsArePricedRight rows
 run_price rows run c groups order is =
     let s = is.summed in
-    let sums = sums_cost (period_at (hour_of (first_moment run)) (periods rows c.group)) (report_price rows) run (same_prices rows c.group run groups order is.unbroken) in
-    (λ i. cost (period_at (hour_of (s.first i)) (periods rows c.group)) (s.up i) (s.down i) (s.seconds i)) ∙ sym sums
+    let sums = sums_cost (period_at (hour_of (in_time (first_moment run))) (periods rows c.group)) (report_price rows) run (same_prices rows c.group run groups order is.unbroken) in
+    (λ i. cost (period_at (hour_of (in_time (s.first i))) (periods rows c.group)) (s.up i) (s.down i) (s.seconds i)) ∙ sym sums
 
 take_front : {X : Type 0} (xs ys : List X) → take (length xs) (xs ++ ys) ≡ xs
 take_front [] ys = refl

@@ -13,7 +13,7 @@ use Rattle.rating.specs.declared.row.TariffRow.TheVariants.{Group, Price}
 use Rattle.rating.specs.Row.{tariff_row, IsInRange, IsSmall}
 use Rattle.rating.specs.Tariff.{GroupTariff, extended, tariff, tariff_of, tariff_rows, terms_of, periods, periods_by}
 use Rattle.rating.specs.Grammar.{suits, may_extend_some, may_follow, first_bad, read_on, groups_of}
-use Rattle.rating.specs.Price.{hour_of, last_of, period_at, cost, price}
+use Rattle.rating.specs.Price.{hour_of, in_time, last_of, period_at, cost, price}
 use Rattle.units.specs.declared.answer.Code.TheVariants.{NotApplicable}
 use Rattle.rating.specs.Grant.{asked, granted, is_managed, no_quota, quota, top_price, unit_price, wish_of}
 use Rattle.rating.specs.Laws.{units_used, GrantsAreCovered, PricesAreBounded}
@@ -130,8 +130,8 @@ pub reserve_pays : (rows : List (List (List ℕ))) → first_bad [] rows ≡ Non
 reserve_pays rows good group t is managed up down seconds moment =
     let suit : All (λ p. suits t.terms.kind p ≡ true) t.periods = subst Suits is (all_suit [] rows sound_none (λ g. tt) good group) in
     let fitting : All (Fitting t.terms.kind (top_price t.terms.kind t.periods)) t.periods = λ k d l. record { fits = suit k d l; below = below_top t.terms.kind t.periods k d l } in
-    let held = held_all (Fitting t.terms.kind (top_price t.terms.kind t.periods)) t.periods (hour_of moment) fitting in
-    subst (λ o. cost (period_at (hour_of moment) (periods_by o)) up down seconds ≤ units_used t.terms.kind up down seconds * top_price t.terms.kind t.periods) (sym is) (cost_held t.terms.kind (top_price t.terms.kind t.periods) up down seconds (period_at (hour_of moment) t.periods) managed held)
+    let held = held_all (Fitting t.terms.kind (top_price t.terms.kind t.periods)) t.periods (hour_of (in_time moment)) fitting in
+    subst (λ o. cost (period_at (hour_of (in_time moment)) (periods_by o)) up down seconds ≤ units_used t.terms.kind up down seconds * top_price t.terms.kind t.periods) (sym is) (cost_held t.terms.kind (top_price t.terms.kind t.periods) up down seconds (period_at (hour_of (in_time moment)) t.periods) managed held)
 
 -- a price is bounded by the amounts, since no unit costs more than 2 ^ 32
 cost_small : (up down seconds : ℕ) (o : Option Period) → IfSome o IsSmall → cost o up down seconds ≤ (up + down + seconds) * 2 ^ 32
@@ -143,7 +143,7 @@ cost_small up down seconds (Some p) small =
     omega (arith, u, d, s)
 
 pub price_bounded : (rows : List (List (List ℕ))) → PricesAreBounded rows
-price_bounded rows group up down seconds moment = cost_small up down seconds (period_at (hour_of moment) (periods rows group)) (held_all IsSmall (periods rows group) (hour_of moment) (periods_small rows group))
+price_bounded rows group up down seconds moment = cost_small up down seconds (period_at (hour_of (in_time moment)) (periods rows group)) (held_all IsSmall (periods rows group) (hour_of (in_time moment)) (periods_small rows group))
 
 -- a reserve is covered by what is free
 quota_covered : (wish top free : ℕ) → (quota wish top free).reserve ≤ free

@@ -7,8 +7,9 @@ use Rattle.std.proofs.lemmas.Bool.{cases_lt}
 use Rattle.std.proofs.lemmas.Bool.Decides.{nat_tests}
 use Rattle.units.specs.Cut.{NoSwitchWithin}
 use Rattle.rating.specs.declared.period.Period.{Period}
-use Rattle.rating.specs.Price.{hour_of, last_of, period_at}
+use Rattle.rating.specs.Price.{hour_of, in_time, last_of, period_at}
 use Rattle.rating.specs.Switch.{switches}
+use Rattle.rating.proofs.Numbers.{le_is}
 
 abbrev pub AreOfDay : List Period → Type 0
 AreOfDay ps = All (λ (p : Period). p.hour ≤ 23) ps
@@ -98,21 +99,22 @@ one_period (p ∷ []) g h l = at g ∙ sym (at h)
         by false = refl
 one_period (p ∷ q ∷ ps) g h l = absurd (omega arith)
 
--- where a whole hour is no switch of at least two periods, its hour is not listed
-unlisted : (ps : List Period) (j : ℕ) → 2 ≤ length ps → switches ps (j * 3600) ≡ false → list_any (λ (p : Period). p.hour == j % 24) ps ≡ false
-unlisted ps j two h =
+-- where a whole hour in range is no switch of at least two periods, its hour is not listed
+unlisted : (ps : List Period) (j : ℕ) → 2 ≤ length ps → j * 3600 ≤ 3155759999 → switches ps (j * 3600) ≡ false → list_any (λ (p : Period). p.hour == j % 24) ps ≡ false
+unlisted ps j two l h =
     let t : nat_le 2 (length ps) ≡ true = grind (arith, nat_tests) in
+    let timed : nat_le (j * 3600) 3155759999 ≡ true = le_is (j * 3600) 3155759999 l in
     let m : j * 3600 % 3600 ≡ 0 = omega arith in
     let whole : (j * 3600 % 3600 == 0) ≡ true = ap (λ n. n == 0) m in
     let e : hour_of (j * 3600) ≡ j % 24 = ap (λ n. n % 24) (let d : j * 3600 / 3600 ≡ j = omega arith in d) in
-    ap (λ n. list_any (λ (p : Period). p.hour == n) ps) (sym e) ∙ (rw (t, whole) at h)
+    ap (λ n. list_any (λ (p : Period). p.hour == n) ps) (sym e) ∙ (rw (t, timed, whole) at h)
 
 -- the law
-pub steady : (ps : List Period) (a b : ℕ) → AreOfDay ps → a ≤ b → NoSwitchWithin (switches ps) a b → period_at (hour_of b) ps ≡ period_at (hour_of a) ps
+pub steady : (ps : List Period) (a b : ℕ) → AreOfDay ps → a ≤ b → NoSwitchWithin (switches ps) a b → period_at (hour_of (in_time b)) ps ≡ period_at (hour_of (in_time a)) ps
 steady ps a b small l none = by (cases_lt (length ps) 2)
   where
-    by : (length ps < 2) ⊎ (2 ≤ length ps) → period_at (hour_of b) ps ≡ period_at (hour_of a) ps
-    by (inl one) = one_period ps (hour_of b) (hour_of a) one
+    by : (length ps < 2) ⊎ (2 ≤ length ps) → period_at (hour_of (in_time b)) ps ≡ period_at (hour_of (in_time a)) ps
+    by (inl one) = one_period ps (hour_of (in_time b)) (hour_of (in_time a)) one
     by (inr two) =
-        let e : b / 3600 ≡ a / 3600 + (b / 3600 - a / 3600) = omega arith in
-        ap (λ n. period_at (n % 24) ps) e ∙ hours_on ps (a / 3600) (b / 3600 - a / 3600) small (λ j x y. unlisted ps j two (none (j * 3600) (omega arith) (omega arith)))
+        let e : in_time b / 3600 ≡ in_time a / 3600 + (in_time b / 3600 - in_time a / 3600) = omega arith in
+        ap (λ n. period_at (n % 24) ps) e ∙ hours_on ps (in_time a / 3600) (in_time b / 3600 - in_time a / 3600) small (λ j x y. unlisted ps j two (omega arith) (none (j * 3600) (omega arith) (omega arith)))

@@ -111,15 +111,21 @@ soonest_found after [] small moment e = absurd (let f : None ≡ Some moment = e
 soonest_found after (x ∷ xs) small moment e =
     soonest_step after moment x xs (small 0 x (omega arith)).hour (soonest_found after xs (λ k d l. small (suc k) d (omega arith))) (soonest after xs) refl (sym (some_is _ _ e))
 
--- a switch has a listed hour, at its begin
-switch_parts : (xs : List Period) (moment : ℕ) → switches xs moment ≡ true → (moment % 3600 ≡ 0) × (list_any (λ (p : Period). p.hour == hour_of moment) xs ≡ true)
-switch_parts xs moment h = by (nat_le 2 (length xs)) (moment % 3600 == 0) (list_any (λ (p : Period). p.hour == hour_of moment) xs) refl refl h
+-- a switch is in range and at the begin of a listed hour
+pub record SwitchParts (xs : List Period) (moment : ℕ) : Type 0 where
+  pub in_time : moment ≤ 3155759999
+  pub whole : moment % 3600 ≡ 0
+  pub listed : list_any (λ (p : Period). p.hour == hour_of moment) xs ≡ true
+
+pub switch_parts : (xs : List Period) (moment : ℕ) → switches xs moment ≡ true → SwitchParts xs moment
+switch_parts xs moment h = by (nat_le 2 (length xs)) (nat_le moment 3155759999) (moment % 3600 == 0) (list_any (λ (p : Period). p.hour == hour_of moment) xs) refl refl refl h
   where
-    by : (two whole listed : Bool) → (moment % 3600 == 0) ≡ whole → list_any (λ (p : Period). p.hour == hour_of moment) xs ≡ listed → (two && (whole && listed)) ≡ true → (moment % 3600 ≡ 0) × (list_any (λ (p : Period). p.hour == hour_of moment) xs ≡ true)
-    by true true true a b i = (is_eq (moment % 3600) 0 a, b)
-    by true true false a b i = absurd (true≢false (sym i))
-    by true false listed a b i = absurd (true≢false (sym i))
-    by false whole listed a b i = absurd (true≢false (sym i))
+    by : (two timed whole listed : Bool) → nat_le moment 3155759999 ≡ timed → (moment % 3600 == 0) ≡ whole → list_any (λ (p : Period). p.hour == hour_of moment) xs ≡ listed → (two && (timed && (whole && listed))) ≡ true → SwitchParts xs moment
+    by true true true true t a b i = record { in_time = grind (arith, nat_tests); whole = is_eq (moment % 3600) 0 a; listed = b }
+    by true true true false t a b i = absurd (true≢false (sym i))
+    by true true false listed t a b i = absurd (true≢false (sym i))
+    by true false whole listed t a b i = absurd (true≢false (sym i))
+    by false timed whole listed t a b i = absurd (true≢false (sym i))
 
 -- no switch lies between the moment and the soonest
 none_between : (after moment : ℕ) (xs : List Period) → IsSoonest after moment xs → NoSwitchBefore (switches xs) after moment
@@ -129,19 +135,19 @@ none_between after moment xs s other l below = by (switches xs other) refl
     by false e = refl
     by true e =
         let parts = switch_parts xs other e in
-        let no_sooner = s.least (hour_of other) parts.1 in
-        let no_later = next_least after other l parts.0 in
+        let no_sooner = s.least (hour_of other) parts.listed in
+        let no_later = next_least after other l parts.whole in
         absurd (omega (arith, no_sooner, no_later, below))
 
 -- the soonest is a switch, where there are two periods
-is_switch_there : (after moment : ℕ) (xs : List Period) → nat_le 2 (length xs) ≡ true → IsSoonest after moment xs → (after < moment) × (switches xs moment ≡ true)
-is_switch_there after moment xs two s =
+is_switch_there : (after moment : ℕ) (xs : List Period) → nat_le 2 (length xs) ≡ true → nat_le moment 3155759999 ≡ true → IsSoonest after moment xs → (after < moment) × (switches xs moment ≡ true)
+is_switch_there after moment xs two timed s =
     let n = next_is after s.hour s.small in
     let whole : moment % 3600 ≡ 0 = ap (λ m. m % 3600) s.is ∙ n.whole in
     let hour : hour_of moment ≡ s.hour = ap hour_of s.is ∙ n.at_hour in
     let listed : list_any (λ (p : Period). p.hour == hour_of moment) xs ≡ true = ap (λ h. list_any (λ (p : Period). p.hour == h) xs) hour ∙ s.listed in
     let later = n.later in
-    (omega (arith, s.is, later), rw (two, whole, listed) refl)
+    (omega (arith, s.is, later), rw (two, timed, whole, listed) refl)
 
 in_range_first : (after : ℕ) (xs : List Period) → nat_le 2 (length xs) ≡ true → All IsSmall xs → (o : Option ℕ) → soonest after xs ≡ o → 2 ≤ length xs → IsFirstSwitch (switches xs) after (in_range o)
 in_range_first after [] two small None e some = absurd (omega arith)
@@ -152,8 +158,15 @@ in_range_first after xs two small (Some moment) e some = by (nat_le moment 31557
     found = soonest_found after xs small moment e
 
     by : (b : Bool) → nat_le moment 3155759999 ≡ b → IsFirstSwitch (switches xs) after (if b then Some moment else None)
-    by true l = let there = is_switch_there after moment xs two found in (there.0, grind (arith, nat_tests), there.1, none_between after moment xs found)
-    by false l = λ other a b. none_between after moment xs found other a (let gt : 3155759999 < moment = grind (arith, nat_tests) in omega arith)
+    by true l = let there = is_switch_there after moment xs two l found in (there.0, there.1, none_between after moment xs found)
+    by false l = λ other a. none other a (switches xs other) refl
+      where
+        late : 3155759999 < moment
+        late = grind (arith, nat_tests)
+
+        none : (other : ℕ) → after < other → (b : Bool) → switches xs other ≡ b → b ≡ false
+        none other a false e = refl
+        none other a true e = let parts = switch_parts xs other e in absurd (true≢false (sym e ∙ none_between after moment xs found other a (let t = parts.in_time in omega (arith, t, late))))
 
 -- what the first listed hour strictly after a moment is among all moments
 pub first_switch : (after : ℕ) (xs : List Period) → All IsSmall xs → IsFirstSwitch (switches xs) after (switch_after xs after)
@@ -161,4 +174,4 @@ first_switch after xs small = by (nat_le 2 (length xs)) refl
   where
     by : (b : Bool) → nat_le 2 (length xs) ≡ b → IsFirstSwitch (switches xs) after (if b then in_range (soonest after xs) else None)
     by true two = in_range_first after xs two small (soonest after xs) refl (grind (arith, nat_tests))
-    by false two = λ moment a b. rw two refl
+    by false two = λ moment a. rw two refl

@@ -1,6 +1,6 @@
 -- Laws of tariffs that the layers above stand on (this product's own; rating after TS 32.290).
 use Rattle.std.specs.Prelude.{◌≡◌, ℕ, ◌+◌, ◌*◌, ◌^◌, ◌≤◌, true, List, [], Some, None}
-use Rattle.units.specs.Cut.{NoSwitchWithin}
+use Rattle.units.specs.Cut.{NoSwitchWithin, whole_hour}
 use Rattle.units.specs.declared.request.Ask.{Ask}
 use Rattle.rating.specs.declared.terms.Kind.{Kind}
 use Rattle.rating.specs.declared.terms.Kind.TheVariants.{Volume, Time, Offline}
@@ -14,6 +14,10 @@ use Rattle.rating.specs.Grant.{grant, is_managed, top_price}
 abbrev pub PricesChangeAtSwitches : List (List (List ℕ)) → Type 0
 PricesChangeAtSwitches rows =
     (group up down seconds after until : ℕ) → after ≤ until → NoSwitchWithin (is_switch rows group) after until → price rows group up down seconds until ≡ price rows group up down seconds after
+
+-- Each switch is a whole hour.
+abbrev pub SwitchesAreWholeHours : List (List (List ℕ)) → Type 0
+SwitchesAreWholeHours rows = (group moment : ℕ) → is_switch rows group moment ≡ true → whole_hour moment ≡ true
 
 -- The next switch is the first one strictly after a moment.
 abbrev pub NextSwitchesAreFirst : List (List (List ℕ)) → Type 0

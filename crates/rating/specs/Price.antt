@@ -1,10 +1,14 @@
 -- What usage of a rating group costs at a moment (TS 32.290, rating; linear in octets and seconds by this product's own profile).
-use Rattle.std.specs.Prelude.{ℕ, ◌+◌, ◌*◌, ◌/◌, ◌%◌, nat_le, List, [], ◌∷◌, Option, Some, None, filter}
+use Rattle.std.specs.Prelude.{ℕ, ◌+◌, ◌*◌, ◌/◌, ◌%◌, min, nat_le, List, [], ◌∷◌, Option, Some, None, filter}
 use Rattle.std.specs.Option.{option_or}
 use Rattle.units.specs.declared.report.Report.{Report}
 use Rattle.units.specs.declared.report.Container.{Container}
 use Rattle.rating.specs.declared.period.Period.{Period}
 use Rattle.rating.specs.Tariff.{periods}
+
+-- a moment, which ends at the last one, 2069-12-31T23:59:59Z
+abbrev pub in_time : ℕ → ℕ
+in_time moment = min moment 3155759999
 
 -- the hour of the UTC day
 abbrev pub hour_of : ℕ → ℕ
@@ -27,7 +31,7 @@ cost (Some p) up down seconds = up * p.up + down * p.down + seconds * p.seconds
 
 -- the price of usage of a group at a moment, by the period of the group that holds it; 0 for a group without a tariff
 abbrev pub price : List (List (List ℕ)) → ℕ → ℕ → ℕ → ℕ → ℕ → ℕ
-price rows group up down seconds moment = cost (period_at (hour_of moment) (periods rows group)) up down seconds
+price rows group up down seconds moment = cost (period_at (hour_of (in_time moment)) (periods rows group)) up down seconds
 
 -- the price of a report: of its own amounts at its own moment
 abbrev pub report_price : List (List (List ℕ)) → Report → ℕ

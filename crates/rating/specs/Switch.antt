@@ -5,9 +5,9 @@ use Rattle.rating.specs.declared.period.Period.{Period}
 use Rattle.rating.specs.Tariff.{periods}
 use Rattle.rating.specs.Price.{hour_of}
 
--- a switch of periods, where they are at least two: a whole hour whose hour of the day is listed
+-- a switch of periods, where they are at least two: a moment in range, at a whole hour, whose hour of the day is listed
 abbrev pub switches : List Period → ℕ → Bool
-switches periods moment = nat_le 2 (length periods) && ((moment % 3600 == 0) && list_any (λ p. p.hour == hour_of moment) periods)
+switches periods moment = nat_le 2 (length periods) && (nat_le moment 3155759999 && ((moment % 3600 == 0) && list_any (λ p. p.hour == hour_of moment) periods))
 
 -- a switch of a group
 abbrev pub is_switch : List (List (List ℕ)) → ℕ → ℕ → Bool
@@ -46,7 +46,7 @@ next_switch rows group after = switch_after (periods rows group) after
 abbrev pub NoSwitchBefore : (ℕ → Bool) → ℕ → ℕ → Type 0
 NoSwitchBefore switches after until = (moment : ℕ) → after < moment → moment < until → switches moment ≡ false
 
--- this is the first switch strictly after a moment; there is none exactly where no later moment in range is a switch
+-- this is the first switch strictly after a moment; there is none exactly where no later moment is a switch
 abbrev pub IsFirstSwitch : (ℕ → Bool) → ℕ → Option ℕ → Type 0
-IsFirstSwitch switches after None = NoSwitchBefore switches after 3155760000
-IsFirstSwitch switches after (Some moment) = (after < moment) × (moment ≤ 3155759999) × (switches moment ≡ true) × NoSwitchBefore switches after moment
+IsFirstSwitch switches after None = (moment : ℕ) → after < moment → switches moment ≡ false
+IsFirstSwitch switches after (Some moment) = (after < moment) × (switches moment ≡ true) × NoSwitchBefore switches after moment

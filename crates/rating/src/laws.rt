@@ -1,5 +1,5 @@
 ghost use Rattle.std.specs.Prelude.{List, ℕ};
-ghost use Rattle.rating.specs.Laws.{GrantsAreCovered, NextSwitchesAreFirst, PricesAreBounded, PricesChangeAtSwitches, ReservesSuffice};
+ghost use Rattle.rating.specs.Laws.{GrantsAreCovered, NextSwitchesAreFirst, PricesAreBounded, PricesChangeAtSwitches, ReservesSuffice, SwitchesAreWholeHours};
 ghost use Rattle.rating.specs.Runs.{CutsArePricedRight, RunsArePricedRight};
 
 /// A law of all tariffs; it does nothing. A run of reports of a rating group with no switch of the group between their moments costs, as
@@ -10,10 +10,11 @@ pub fn runs_are_priced_right()
     ensures cuts { (rows : List (List (List ℕ))) → CutsArePricedRight rows }
 {}
 
-/// A law of all tariffs; it does nothing. Prices change at switches only, and the next switch is the first one strictly after a moment (this
-/// product's own).
+/// A law of all tariffs; it does nothing. Prices change at switches only, these are whole hours, and the next switch is the first one strictly
+/// after a moment (this product's own).
 pub fn prices_change_at_switches()
     ensures steady { (rows : List (List (List ℕ))) → PricesChangeAtSwitches rows }
+    ensures hours { (rows : List (List (List ℕ))) → SwitchesAreWholeHours rows }
     ensures next { (rows : List (List (List ℕ))) → NextSwitchesAreFirst rows }
 {}
 

@@ -3,7 +3,7 @@ ghost use Rattle.std.specs.List.{AllWithin};
 ghost use Rattle.std.specs.List.Sorted.{IsNonDecreasingBy};
 ghost use Rattle.rating.specs.declared.period.Period.{Period};
 ghost use Rattle.rating.specs.Row.{IsSmall};
-ghost use Rattle.rating.specs.Price.{period_at, hour_of};
+ghost use Rattle.rating.specs.Price.{period_at, hour_of, in_time};
 ghost use Rattle.rating.specs.Switch.{switch_after};
 
 use crate::period::Period;
@@ -13,6 +13,7 @@ use units::Moment;
 pub fn hour_of(moment: Moment) -> u32
     ensures value { result ≡ hour_of moment }
     ensures range { result ≤ 23 }
+    ensures in_time { in_time moment ≡ moment }
 {
     (moment.seconds() / 3_600 % 24) as u32
 }

@@ -5,7 +5,7 @@ ghost use Rattle.rating.specs.declared.period.Period.{Period};
 ghost use Rattle.rating.specs.Row.{IsSmall};
 ghost use Rattle.rating.specs.Grammar.{suits, may_extend};
 ghost use Rattle.rating.specs.Grant.{unit_price, granted_by};
-ghost use Rattle.rating.specs.Price.{period_at, hour_of, cost};
+ghost use Rattle.rating.specs.Price.{period_at, hour_of, in_time, cost};
 ghost use Rattle.rating.specs.Switch.{switch_after, switches, IsFirstSwitch};
 
 use crate::grant::{Grant, no_quota, quota, wish_of};
@@ -155,7 +155,7 @@ impl Tariff {
 
     /// The price of usage by the period that holds a moment.
     pub fn price(&self, up: u64, down: u64, seconds: u32, first: Moment) -> u128
-        ensures { result ≡ cost (period_at (hour_of first) self.now.periods) up down seconds }
+        ensures { result ≡ cost (period_at (hour_of (in_time first)) self.now.periods) up down seconds }
     {
         let period = period_at(self.periods.as_slice(), hour_of(first));
         cost(period, up, down, seconds)
