@@ -1,6 +1,7 @@
 pub mod Numbers
 pub mod Hours
 pub mod Found
+pub mod Begun
 pub mod Days
 pub mod Switches
 pub mod Rows

@@ -1,6 +1,6 @@
 -- What is kept beside the rows for speed; no public clause speaks of it.
-use Rattle.std.specs.Prelude.{◌≡◌, ℕ, ◌≤◌, ◌==◌, nat_lt, nat_eq, Bool, true, List, [], None, All, length}
-use Rattle.std.specs.List.{list_all, list_any}
+use Rattle.std.specs.Prelude.{◌≡◌, ℕ, ◌<◌, ◌≤◌, slice_index_or, ◌==◌, nat_lt, nat_eq, Bool, true, List, [], None, All, length}
+use Rattle.std.specs.List.{AllWithin, list_all, list_any}
 use Rattle.std.specs.HashMap.{get}
 use Rattle.std.specs.List.Sorted.{IsNonDecreasingBy}
 use Rattle.rating.specs.declared.period.Period.{Period}
@@ -14,15 +14,26 @@ use Rattle.rating.specs.Tariff.{GroupTariff, tariff, tariff_of, periods_of}
 use Rattle.rating.specs.Grammar.{groups_of, first_bad}
 use Rattle.rating.specs.Grant.{top_price}
 
+-- how many periods begin at an hour of the day or before
+pub record IsBegun (periods : List Period) (hour count : ℕ) : Type 0 where
+  pub low : AllWithin (λ p. p.hour ≤ hour) periods 0 count
+  pub high : AllWithin (λ p. hour < p.hour) periods count (length periods)
+  pub within : count ≤ length periods
+
+-- so for each hour
+abbrev pub AreBegun : List Period → List ℕ → Type 0
+AreBegun periods begun = (hour : ℕ) → hour < 24 → IsBegun periods hour (slice_index_or begun hour 0)
+
 -- the tariff that is kept
 abbrev pub kept_tariff : Inside → GroupTariff
 kept_tariff t = record { terms = t.terms; periods = t.periods }
 
--- hours never fall, each period is in range, and the top price is kept
+-- hours never fall, each period is in range, and the top price and the counts of the hours are kept
 pub record IsKept (t : Inside) : Type 0 where
   pub hours : IsNonDecreasingBy (λ (p : Period). p.hour) t.periods
   pub small : All IsSmall t.periods
   pub top : t.top ≡ top_price t.terms.kind t.periods
+  pub begun : AreBegun t.periods t.begun
 
 -- the group of a price row is among these
 abbrev pub is_known : List ℕ → TariffRow → Bool

@@ -1,7 +1,7 @@
-ghost use Rattle.std.specs.Prelude.{◌≡◌, ◌<◌, ◌≤◌, ◌+◌, ◌*◌, ◌/◌, length, All, IfSome};
-ghost use Rattle.std.specs.List.{AllWithin};
+ghost use Rattle.std.specs.Prelude.{◌≡◌, ◌≤◌, ◌+◌, ◌*◌, ◌/◌, ◌&&◌, ℕ, All, IfSome, if◌then◌else◌, nat_le, nat_lt, slice_index_or};
 ghost use Rattle.std.specs.List.Sorted.{IsNonDecreasingBy};
 ghost use Rattle.rating.specs.declared.period.Period.{Period};
+ghost use Rattle.rating.specs.Caches.{AreBegun};
 ghost use Rattle.rating.specs.Row.{IsSmall};
 ghost use Rattle.rating.specs.Price.{period_at, hour_of, in_time};
 ghost use Rattle.rating.specs.Switch.{switch_after};
@@ -18,24 +18,25 @@ pub fn hour_of(moment: Moment) -> u32
     (moment.seconds() / 3_600 % 24) as u32
 }
 
-/// How many periods begin at an hour or before.
-fn count_until(periods: &[Period], hour: u32) -> usize
-    requires { IsNonDecreasingBy (λ (p : Period). p.hour) periods.now }
-    ensures low { AllWithin (λ p. p.hour ≤ hour) periods.now 0 result }
-    ensures high { AllWithin (λ p. hour < p.hour) periods.now result (length periods.now) }
-    ensures within { result ≤ length periods.now }
+/// The counts of the hours with one period more, which begins at this hour: from it on there are as many.
+pub fn begin(begun: &mut [usize; 24], hour: u32, count: usize)
+    requires { hour ≤ 23 }
+    ensures { (k : ℕ) → slice_index_or begun.new k 0 ≡ (if nat_le hour k && nat_lt k 24 then count else slice_index_or begun.old k 0) }
 {
-    periods.partition_point(|p| p.hour <= hour)
+    for k in hour as usize..24 {
+        begun[k] = count;
+    }
 }
 
 /// The period that holds an hour, if there is any.
-pub fn period_at(periods: &[Period], hour: u32) -> Option<Period>
-    requires hours { IsNonDecreasingBy (λ (p : Period). p.hour) periods.now }
+pub fn period_at(periods: &[Period], begun: &[usize; 24], hour: u32) -> Option<Period>
+    requires hour { hour ≤ 23 }
+    requires begun { AreBegun periods.now begun.now }
     requires small { All IsSmall periods.now }
     ensures value { result ≡ period_at hour periods.now }
     ensures range { IfSome result IsSmall }
 {
-    let count = count_until(periods, hour);
+    let count = begun[hour as usize];
     if count > 0 {
         Some(periods[count - 1])
     } else {
@@ -52,7 +53,8 @@ fn today_at(moment: Moment, hour: u32) -> u64
 }
 
 /// The first listed hour strictly after a moment, where there are at least two.
-pub fn switch_after(periods: &[Period], after: Moment) -> Option<Moment>
+pub fn switch_after(periods: &[Period], begun: &[usize; 24], after: Moment) -> Option<Moment>
+    requires begun { AreBegun periods.now begun.now }
     requires hours { IsNonDecreasingBy (λ (p : Period). p.hour) periods.now }
     requires small { All IsSmall periods.now }
     ensures { result ≡ switch_after periods.now after }
@@ -60,7 +62,7 @@ pub fn switch_after(periods: &[Period], after: Moment) -> Option<Moment>
     if periods.len() < 2 {
         return None;
     }
-    let count = count_until(periods, hour_of(after));
+    let count = begun[hour_of(after) as usize];
     if count < periods.len() {
         Moment::new(today_at(after, periods[count].hour))
     } else {

@@ -10,7 +10,7 @@ ghost use Rattle.rating.specs.Switch.{switch_after, switches, IsFirstSwitch};
 
 use crate::grant::{Grant, no_quota, quota, wish_of};
 use crate::period::Period;
-use crate::search::{hour_of, period_at, switch_after};
+use crate::search::{begin, hour_of, period_at, switch_after};
 use crate::terms::{Kind, Terms};
 use std::alloc::{AllocError, Global};
 use std::marker::Model;
@@ -22,6 +22,7 @@ pub struct Tariff {
     terms: Terms,
     periods: List<Period>,
     top: u64,
+    begun: [usize; 24],
 }
 
 impl Model for Tariff {
@@ -46,6 +47,7 @@ impl Clone for Tariff {
             terms: self.terms,
             periods: self.periods.clone()?,
             top: self.top,
+            begun: self.begun,
         })
     }
 }
@@ -118,6 +120,7 @@ impl Tariff {
             terms,
             periods: List::new(alloc),
             top: 0,
+            begun: [0; 24],
         }
     }
 
@@ -136,6 +139,7 @@ impl Tariff {
     {
         self.periods.push(period)?;
         self.top = higher_top(self.top, self.terms.kind, &period);
+        begin(&mut self.begun, period.hour, self.periods.len());
         Ok(())
     }
 
@@ -157,7 +161,7 @@ impl Tariff {
     pub fn price(&self, up: u64, down: u64, seconds: u32, first: Moment) -> u128
         ensures { result ≡ cost (period_at (hour_of (in_time first)) self.now.periods) up down seconds }
     {
-        let period = period_at(self.periods.as_slice(), hour_of(first));
+        let period = period_at(self.periods.as_slice(), &self.begun, hour_of(first));
         cost(period, up, down, seconds)
     }
 
@@ -166,7 +170,7 @@ impl Tariff {
         ensures value { result ≡ switch_after self.now.periods after }
         ensures first { IsFirstSwitch (switches self.now.periods) after result }
     {
-        switch_after(self.periods.as_slice(), after)
+        switch_after(self.periods.as_slice(), &self.begun, after)
     }
 
     /// The grant out of free money.
