@@ -1,0 +1,92 @@
+-- The ranges of the rows of a tariff.
+use Rattle.std.proofs.Common.{◌≡◌, ℕ, ◌-◌, ◌^◌, ◌≤◌, ◌&&◌, Bool, true, false, List, [], ◌∷◌, nat_le, Option, Some, None, All, IfSome, if◌then◌else◌, option_and_then, option_map, codes, nat_eq, refl, arith}
+use Rattle.std.specs.List.{filter_map, cons_option}
+use Rattle.std.specs.Cmp.Lexicographic.{pointwise}
+use Rattle.std.specs.Str.Parse.{digits_value}
+use Rattle.std.proofs.lemmas.Bool.Decides.{nat_tests}
+use Rattle.std.proofs.lemmas.List.Elements.{All-nil, All-cons, All-head, All-tail, All-weaker}
+use Rattle.rows.specs.Number.{number_of, is_numeral}
+use Rattle.rating.specs.declared.terms.Terms.{Terms}
+use Rattle.rating.specs.declared.period.Period.{Period}
+use Rattle.rating.specs.declared.row.TariffRow.{TariffRow}
+use Rattle.rating.specs.declared.row.TariffRow.TheVariants.{Group, Price}
+use Rattle.rating.specs.Row.{IsInRange, IsSmall, kind_of, chunk_of, action_of, group_row, price_row, tariff_row}
+use Rattle.rating.specs.Tariff.{tariff_rows, terms_of, periods, periods_by, periods_of, period_in}
+use Rattle.rating.proofs.Steady.{AreOfDay}
+
+and_then : {A B : Type 0} (o : Option A) (f : A → Option B) (P : B → Type 0) → ((x : A) → o ≡ Some x → IfSome (f x) P) → IfSome (option_and_then f o) P
+and_then None f P h = tt
+and_then (Some x) f P h = h x refl
+
+number_most : (most : ℕ) (bytes : List ℕ) (n : ℕ) → number_of most bytes ≡ Some n → n ≤ most
+number_most most bytes n h = by (is_numeral bytes) (nat_le (digits_value 10 bytes) most) refl h
+  where
+    by : (a b : Bool) → nat_le (digits_value 10 bytes) most ≡ b → (if a && b then Some (digits_value 10 bytes) else None) ≡ Some n → n ≤ most
+    by true true e i = let same : digits_value 10 bytes ≡ n = cc in let l : digits_value 10 bytes ≤ most = grind (arith, nat_tests) in omega (arith, same, l)
+    by true false e i = absurd (let f : None ≡ Some n = i in cc)
+    by false b e i = absurd (let f : None ≡ Some n = i in cc)
+
+price_small : (group : List ℕ) (rest : List (List ℕ)) → IfSome (price_row group rest) IsInRange
+price_small group [] = tt
+price_small group (a ∷ []) = tt
+price_small group (a ∷ b ∷ []) = tt
+price_small group (a ∷ b ∷ c ∷ []) = tt
+price_small group (hour ∷ up ∷ down ∷ seconds ∷ []) =
+    and_then (number_of (2 ^ 32 - 1) group) _ IsInRange (λ g eg. and_then (number_of 23 hour) _ IsInRange (λ h eh. and_then (number_of (2 ^ 32) up) _ IsInRange (λ u eu. and_then (number_of (2 ^ 32) down) _ IsInRange (λ d ed. and_then (number_of (2 ^ 32) seconds) _ IsInRange (λ s es.
+    record { hour = number_most 23 hour h eh; up = number_most (2 ^ 32) up u eu; down = number_most (2 ^ 32) down d ed; seconds = number_most (2 ^ 32) seconds s es })))))
+price_small group (a ∷ b ∷ c ∷ d ∷ e ∷ rest) = tt
+
+group_small : (group : List ℕ) (rest : List (List ℕ)) → IfSome (group_row group rest) IsInRange
+group_small group [] = tt
+group_small group (a ∷ []) = tt
+group_small group (a ∷ b ∷ []) = tt
+group_small group (a ∷ b ∷ c ∷ []) = tt
+group_small group (a ∷ b ∷ c ∷ d ∷ []) = tt
+group_small group (a ∷ b ∷ c ∷ d ∷ e ∷ []) = tt
+group_small group (kind ∷ chunk ∷ threshold ∷ validity ∷ holding ∷ action ∷ []) =
+    and_then (number_of (2 ^ 32 - 1) group) _ IsInRange (λ g eg. and_then (kind_of kind) _ IsInRange (λ k ek. and_then (chunk_of k chunk) _ IsInRange (λ c ec. and_then (number_of (2 ^ 32 - 1) threshold) _ IsInRange (λ t et. and_then (number_of 604800 validity) _ IsInRange (λ v ev. and_then (number_of 604800 holding) _ IsInRange (λ h eh. and_then (action_of action) _ IsInRange (λ a ea. tt)))))))
+group_small group (a ∷ b ∷ c ∷ d ∷ e ∷ f ∷ g ∷ rest) = tt
+
+pub row_small : (fields : List (List ℕ)) → IfSome (tariff_row fields) IsInRange
+row_small [] = tt
+row_small (a ∷ []) = tt
+row_small (word ∷ group ∷ rest) = by (pointwise nat_eq word (codes "group")) (pointwise nat_eq word (codes "price")) (group_small group rest) (price_small group rest)
+  where
+    by : (a b : Bool) → IfSome (group_row group rest) IsInRange → IfSome (price_row group rest) IsInRange → IfSome (if a then group_row group rest else (if b then price_row group rest else None)) IsInRange
+    by true b g p = g
+    by false true g p = p
+    by false false g p = tt
+
+-- what holds of each item that is given holds of all
+all_given : {X Y : Type 0} (h : X → Option Y) (Q : X → Type 0) (P : Y → Type 0) → ((x : X) → Q x → IfSome (h x) P) → (xs : List X) → All Q xs → All P (filter_map h xs)
+all_given h Q P each [] all = All-nil P
+all_given h Q P each (x ∷ xs) all = by (h x) (each x (All-head Q x xs all)) (all_given h Q P each xs (All-tail Q x xs all))
+  where
+    by : (o : Option _) → IfSome o P → All P (filter_map h xs) → All P (cons_option o (filter_map h xs))
+    by None i rest = rest
+    by (Some y) i rest = All-cons P y (filter_map h xs) i rest
+
+rows_small : (rows : List (List (List ℕ))) → All IsInRange (tariff_rows rows)
+rows_small rows = all_given tariff_row (λ fields. Unit {0}) IsInRange (λ fields u. row_small fields) rows (λ k d l. tt)
+
+period_small : (g : ℕ) (r : TariffRow) → IsInRange r → IfSome (period_in g r) IsSmall
+period_small g (Group h t) small = tt
+period_small g (Price h p) small = by (nat_eq h g)
+  where
+    by : (b : Bool) → IfSome (if b then Some p else None) IsSmall
+    by true = small
+    by false = tt
+
+-- each period of a group is in range
+pub periods_small : (rows : List (List (List ℕ))) (g : ℕ) → All IsSmall (periods rows g)
+periods_small rows g = by (terms_of (tariff_rows rows) g)
+  where
+    of : All IsSmall (periods_of (tariff_rows rows) g)
+    of = all_given (period_in g) IsInRange IsSmall (period_small g) (tariff_rows rows) (rows_small rows)
+
+    by : (o : Option Terms) → All IsSmall (periods_by (option_map (λ ts. record { terms = ts; periods = periods_of (tariff_rows rows) g }) o))
+    by None = All-nil IsSmall
+    by (Some ts) = of
+
+pub periods_of_day : (rows : List (List (List ℕ))) (g : ℕ) → AreOfDay (periods rows g)
+periods_of_day rows g = All-weaker IsSmall (λ (p : Period). p.hour ≤ 23) (λ p s. s.hour) (periods rows g) (periods_small rows g)

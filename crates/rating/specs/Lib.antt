@@ -1,0 +1,11 @@
+pub mod Row
+pub mod Tariff
+pub mod Grammar
+pub mod Price
+pub mod Switch
+pub mod Grant
+pub mod Runs
+pub mod Laws
+pub mod Caches
+pub mod Same
+pub mod Plain

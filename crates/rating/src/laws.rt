@@ -1,0 +1,32 @@
+ghost use Rattle.std.specs.Prelude.{List, ℕ};
+ghost use Rattle.rating.specs.Laws.{GrantsAreCovered, NextSwitchesAreFirst, PricesAreBounded, PricesChangeAtSwitches, ReservesSuffice, SwitchesAreWholeHours};
+ghost use Rattle.rating.specs.Runs.{CutsArePricedRight, RunsArePricedRight};
+
+/// A law of all tariffs; it does nothing. A run of reports of a rating group with no switch of the group between their moments costs, as
+/// one container of their sums at the first moment, what the reports cost, each at its own moment; and so does each container of a cut
+/// under the group's switches, and the cut as a whole (this product's own).
+pub fn runs_are_priced_right()
+    ensures runs { (rows : List (List (List ℕ))) → RunsArePricedRight rows }
+    ensures cuts { (rows : List (List (List ℕ))) → CutsArePricedRight rows }
+{}
+
+/// A law of all tariffs; it does nothing. Prices change at switches only, these are whole hours, and the next switch is the first one strictly
+/// after a moment (this product's own).
+pub fn prices_change_at_switches()
+    ensures steady { (rows : List (List (List ℕ))) → PricesChangeAtSwitches rows }
+    ensures hours { (rows : List (List (List ℕ))) → SwitchesAreWholeHours rows }
+    ensures next { (rows : List (List (List ℕ))) → NextSwitchesAreFirst rows }
+{}
+
+/// A law of all tariffs; it does nothing. What is set aside for granted units is covered by the free money, and pays for them at any moment:
+/// usage of a group with quotas costs no more than its units at the top price (this product's own).
+pub fn reserves_suffice()
+    ensures pay { (rows : List (List (List ℕ))) → ReservesSuffice rows }
+    ensures covered { (rows : List (List (List ℕ))) → GrantsAreCovered rows }
+{}
+
+/// A law of all tariffs; it does nothing. Usage costs at most 2^32 grains for each octet and second, so that sums of prices stay within
+/// their types (this product's own).
+pub fn prices_are_bounded()
+    ensures { (rows : List (List (List ℕ))) → PricesAreBounded rows }
+{}
