@@ -1,0 +1,16 @@
+use Rattle.std.proofs.Common.{◌≡◌, ◌+◌, ◌≤◌}
+use Rattle.std.specs.FinMap as map
+use Rattle.accounts.proofs.accounts.Accounts.expire.Given as goal
+use Rattle.accounts.specs.Endings.{without}
+
+abbrev pub invariant-loop-key : goal.invariant-loop-key
+invariant-loop-key l = record {
+  stays : without l.self.state.reservations l.ending ≡ without l.fn.self.state.reservations l.ending;
+  accounts : l.self.state.accounts ≡ l.fn.self.state.accounts;
+  lines : l.self.state.lines ≡ l.fn.self.state.lines;
+  count : l.count + map.len l.self.state.reservations ≡ map.len l.fn.self.state.reservations;
+  spare : l.fn.self.spare ≤ l.self.spare;
+}
+
+abbrev pub decreases-loop-key : goal.decreases-loop-key
+decreases-loop-key l = map.len l.self.state.reservations

@@ -1,0 +1,27 @@
+-- Which reservations a release of a session, or the time, ends (this product's own).
+use Rattle.std.specs.Prelude.{ℕ, ◌==◌, nat_le, not, Bool, false, Option, Some, None}
+use Rattle.std.specs.FinMap as map
+use Rattle.accounts.specs.declared.reservation.Key.{Key}
+use Rattle.accounts.specs.declared.reservation.Reservation.{Reservation}
+use Rattle.accounts.specs.declared.reservations.Ending.{Ending}
+use Rattle.accounts.specs.declared.reservations.Ending.TheVariants.{Session, Until}
+use Rattle.accounts.specs.Reservations.{ReservationMap}
+
+-- whether a deadline, if there is one, is at most the moment
+abbrev pub is_passed : ℕ → Option ℕ → Bool
+is_passed moment None = false
+is_passed moment (Some deadline) = nat_le deadline moment
+
+-- whether a reservation is one of the session, or one whose deadline has passed
+abbrev pub is_ending : Ending → Key → Reservation → Bool
+is_ending (Session session) key r = key.session == session
+is_ending (Until moment) key r = is_passed moment r.deadline
+
+-- the same of what stands at a key
+abbrev pub ends : Ending → Key → Option Reservation → Bool
+ends ending key None = false
+ends ending key (Some r) = is_ending ending key r
+
+-- the reservations that stay
+abbrev pub without : ReservationMap → Ending → ReservationMap
+without m ending = map.retain_keys m (λ key. not (ends ending key (map.get m key)))

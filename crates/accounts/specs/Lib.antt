@@ -1,0 +1,11 @@
+pub mod Reservations
+pub mod Endings
+pub mod Ledger
+pub mod Moves
+pub mod Deadlines
+pub mod Answers
+pub mod Balanced
+pub mod Since
+pub mod Due
+pub mod Numbers
+pub mod Caches

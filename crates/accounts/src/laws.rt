@@ -1,0 +1,19 @@
+//! What holds of every list of moves.
+ghost use Rattle.accounts.specs.Balanced.{BooksBalance, TopupsAreSummed};
+ghost use Rattle.accounts.specs.Since.{HasLeft, OwesNothing, HasNone};
+
+/// After every list of moves, each account's balance and its lines are together its top-ups and what it owes, what is
+/// set aside is within the balance, and its top-ups are the sum of the amounts topped up (this product's own).
+pub fn accounts_balance()
+    ensures books { BooksBalance }
+    ensures topups { TopupsAreSummed }
+{}
+
+/// After every list of moves, a reservation that was neither released nor expired has left what was set aside less what
+/// was charged to it since, and a charge within it owes nothing; where none was made since, none is there (this
+/// product's own).
+pub fn reservations_hold()
+    ensures left { HasLeft }
+    ensures owed { OwesNothing }
+    ensures none { HasNone }
+{}

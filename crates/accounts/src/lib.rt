@@ -1,0 +1,18 @@
+//! Accounts, what is set aside from them and owed on them, and the ledger.
+#![tactic(auto)]
+
+mod account;
+mod accounts;
+mod charge;
+mod due;
+mod laws;
+mod line;
+mod refusal;
+mod reservation;
+mod reservations;
+
+pub use accounts::Accounts;
+pub use charge::Charge;
+pub use laws::{accounts_balance, reservations_hold};
+pub use line::Line;
+pub use refusal::AccountRefusal;
