@@ -6,3 +6,4 @@ pub mod Since
 pub mod Deadlines
 pub mod Dues
 pub mod Books
+pub mod Chained

@@ -6,6 +6,7 @@ pub mod Deadlines
 pub mod Answers
 pub mod Balanced
 pub mod Since
+pub mod Chains
 pub mod Due
 pub mod Numbers
 pub mod Caches

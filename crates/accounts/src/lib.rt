@@ -5,6 +5,7 @@ mod account;
 mod accounts;
 mod charge;
 mod due;
+mod groups;
 mod laws;
 mod line;
 mod refusal;
