@@ -9,8 +9,8 @@ use Rattle.std.specs.Map.{keys_of}
 use Rattle.std.specs.FinMap as map
 use Rattle.accounts.specs.declared.reservation.Key.{Key}
 use Rattle.accounts.specs.declared.reservation.Reservation.{Reservation}
-use Rattle.accounts.specs.declared.reservations.Ending.{Ending}
-use Rattle.accounts.specs.declared.reservations.Ending.TheVariants.{Session, Until}
+use Rattle.accounts.specs.Endings.{Ending}
+use Rattle.accounts.specs.Endings.{Session, Until}
 use Rattle.accounts.specs.Reservations.{key_eq, key_cmp, keys_total, ReservationMap, at}
 use Rattle.accounts.specs.Endings.{ends, without}
 use Rattle.accounts.specs.Ledger.{Numbers, State, numbers, share, from_own, from_free, uncovered}

@@ -3,7 +3,7 @@ pub mod FinSums
 pub mod Sound
 pub mod Changes
 pub mod Since
-pub mod Deadlines
 pub mod Dues
 pub mod Books
 pub mod Chained
+pub mod Indexed

@@ -8,8 +8,8 @@ use Rattle.std.specs.FinMap as map
 use Rattle.accounts.proofs.Tables.{tied_keys, stays}
 use Rattle.accounts.specs.declared.reservation.Key.{Key}
 use Rattle.accounts.specs.declared.reservation.Reservation.{Reservation}
-use Rattle.accounts.specs.declared.reservations.Ending.{Ending}
-use Rattle.accounts.specs.declared.reservations.Ending.TheVariants.{Session, Until}
+use Rattle.accounts.specs.Endings.{Ending}
+use Rattle.accounts.specs.Endings.{Session, Until}
 use Rattle.accounts.specs.Reservations.{at, key_eq, key_cmp, keys_total, ReservationMap, left_of}
 use Rattle.accounts.specs.Endings.{is_passed, ends, without}
 use Rattle.accounts.specs.Ledger.{State}

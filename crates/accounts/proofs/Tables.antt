@@ -14,7 +14,7 @@ use Rattle.std.proofs.lemmas.Map.Lookups.{CmpEqualImpliesEq, exact_pairs, exact_
 use Rattle.std.specs.List.{list_any}
 use Rattle.accounts.specs.declared.reservation.Key.{Key}
 use Rattle.accounts.specs.declared.reservation.Reservation.{Reservation}
-use Rattle.accounts.specs.declared.reservations.Ending.{Ending}
+use Rattle.accounts.specs.Endings.{Ending}
 use Rattle.accounts.specs.Reservations.{key_eq, key_cmp, keys_total, ReservationMap}
 use Rattle.accounts.specs.Endings.{is_ending, ends, without}
 use Rattle.accounts.specs.Moves.{lessened_at, lessened}
@@ -130,3 +130,7 @@ lessened_more m k x r e lt = ap (lessened_at m k x) e ∙ ap (λ b. cond b (remo
 pub from_found : {T E X : Type 0} (r : Result T E) (w : Option X) (x : X) (P : Type 0) → OnErr r (w ≡ None) → w ≡ Some x → OnOk r P → P
 from_found (Ok y) w x P absent e p = p
 from_found (Err y) w x P absent e p = absurd (cc)
+
+-- what the table has at a key is what the map has
+pub stored_at : (es : List (Key × Reservation)) (m : ReservationMap) → from_entries {R = key_cmp} es ≡ m → (q : Key) → lookup (key_eq q) es ≡ get m q
+stored_at es m e q = sym (get_key es q) ∙ ap (λ n. get n q) e

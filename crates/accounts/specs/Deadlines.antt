@@ -1,5 +1,5 @@
 -- The deadlines of reservations (this product's own).
-use Rattle.std.specs.Prelude.{◌≡◌, ℕ, ◌≤◌, min, List, [], ◌∷◌, Option, Some, None}
+use Rattle.std.specs.Prelude.{◌≡◌, ℕ, ◌≤◌, Option, Some, None}
 use Rattle.std.specs.FinMap as map
 use Rattle.accounts.specs.declared.reservation.Key.{Key}
 use Rattle.accounts.specs.declared.reservation.Reservation.{Reservation}
@@ -18,12 +18,3 @@ deadline_at m key = deadline_of (map.get m key)
 abbrev pub IsLeast : ReservationMap → Option ℕ → Type 0
 IsLeast m None = (key : Key) → deadline_at m key ≡ None
 IsLeast m (Some least) = ((key : Key) × (deadline_at m key ≡ Some least)) × ((key : Key) (deadline : ℕ) → deadline_at m key ≡ Some deadline → least ≤ deadline)
-
-abbrev pub nearer : Option ℕ → Option ℕ → Option ℕ
-nearer None b = b
-nearer (Some x) None = Some x
-nearer (Some x) (Some y) = Some (min x y)
-
-abbrev pub least_value : List Reservation → Option ℕ
-least_value [] = None
-least_value (r ∷ rs) = nearer r.deadline (least_value rs)

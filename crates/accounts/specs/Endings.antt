@@ -3,9 +3,12 @@ use Rattle.std.specs.Prelude.{ℕ, ◌==◌, nat_le, not, Bool, false, Option, S
 use Rattle.std.specs.FinMap as map
 use Rattle.accounts.specs.declared.reservation.Key.{Key}
 use Rattle.accounts.specs.declared.reservation.Reservation.{Reservation}
-use Rattle.accounts.specs.declared.reservations.Ending.{Ending}
-use Rattle.accounts.specs.declared.reservations.Ending.TheVariants.{Session, Until}
 use Rattle.accounts.specs.Reservations.{ReservationMap}
+
+-- what ends reservations: the release of a session, or the time, up to a moment
+pub data Ending : Type 0 where
+  Session : (session : ℕ) → Ending
+  Until : (moment : ℕ) → Ending
 
 -- whether a deadline, if there is one, is at most the moment
 abbrev pub is_passed : ℕ → Option ℕ → Bool

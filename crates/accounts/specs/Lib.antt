@@ -8,5 +8,6 @@ pub mod Balanced
 pub mod Since
 pub mod Chains
 pub mod Due
+pub mod Indexes
 pub mod Numbers
 pub mod Caches

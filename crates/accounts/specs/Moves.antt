@@ -3,7 +3,7 @@ use Rattle.std.specs.Prelude.{◌≡◌, ℕ, ◌+◌, ◌-◌, ◌<◌, ◌≤�
 use Rattle.std.specs.FinMap as map
 use Rattle.accounts.specs.declared.reservation.Key.{Key}
 use Rattle.accounts.specs.declared.reservation.Reservation.{Reservation}
-use Rattle.accounts.specs.declared.reservations.Ending.TheVariants.{Session, Until}
+use Rattle.accounts.specs.Endings.{Session, Until}
 use Rattle.accounts.specs.Reservations.{ReservationMap, at}
 use Rattle.accounts.specs.Endings.{without}
 use Rattle.accounts.specs.Ledger.{Numbers, State, nothing, numbers, free, from_own, from_free, uncovered}

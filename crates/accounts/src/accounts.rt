@@ -2,7 +2,7 @@ ghost use Rattle.std.specs.Prelude.{◌≡◌, ◌≤◌, ◌<◌, ◌+◌, ◌-
 ghost use Rattle.std.specs.FinMap as map;
 ghost use Rattle.accounts.specs.declared.reservation.Key.{Key as KeySeen};
 ghost use Rattle.accounts.specs.Reservations.{at, left_of};
-ghost use Rattle.accounts.specs.Endings.{ends, without};
+ghost use Rattle.accounts.specs.Endings.{ends, Session, Until};
 ghost use Rattle.accounts.specs.Ledger.{State, numbers, balance, left, reserved, free, from_own, from_free, uncovered};
 ghost use Rattle.accounts.specs.Moves.{Added, ToppedUp, Charged, Reserved, Released, ReleasedAll, Expired, after, empty_state};
 ghost use Rattle.accounts.specs.Answers.{where_known, reserve_answer};
@@ -15,7 +15,7 @@ use crate::charge::Charge;
 use crate::line::Line;
 use crate::refusal::AccountRefusal;
 use crate::reservation::{Key, Reservation};
-use crate::reservations::{Ending, Reservations};
+use crate::reservations::Reservations;
 use std::alloc::Global;
 use std::marker::Model;
 use units::{Moment, OutOfMemory};
@@ -192,8 +192,7 @@ impl Accounts {
         ensures state { self.new.state ≡ after (ReleasedAll session) self.old.state }
         ensures spare { self.old.spare ≤ self.new.spare }
     {
-        let ending = Ending::Session(session);
-        while let Some(key) = self.ending(&ending) {
+        while let Some(key) = self.one_of(session) {
             self.release(key.session, key.group);
         }
     }
@@ -205,20 +204,26 @@ impl Accounts {
         ensures count { result + map.len self.new.state.reservations ≡ map.len self.old.state.reservations }
         ensures spare { self.old.spare ≤ self.new.spare }
     {
-        let ending = Ending::Until(moment);
         let mut count = 0;
-        while let Some(key) = self.ending(&ending) {
+        while let Some(key) = self.one_until(&moment) {
             self.release(key.session, key.group);
             count += 1;
         }
         count
     }
 
-    // A reservation that is ended, if there is one.
-    fn ending(&self, ending: &Ending) -> Option<Key>
-        ensures { MatchOption result ((k : KeySeen) → ends ending.now k (map.get self.now.state.reservations k) ≡ false) (λ k. ends ending.now k (map.get self.now.state.reservations k) ≡ true) }
+    // A reservation of a session, if it has one.
+    fn one_of(&self, session: u32) -> Option<Key>
+        ensures { MatchOption result ((k : KeySeen) → ends (Session session) k (map.get self.now.state.reservations k) ≡ false) (λ k. ends (Session session) k (map.get self.now.state.reservations k) ≡ true) }
     {
-        self.reservations.ending(ending)
+        self.reservations.one_of(session)
+    }
+
+    // A reservation whose deadline is at most the moment, if there is one.
+    fn one_until(&self, moment: &Moment) -> Option<Key>
+        ensures { MatchOption result ((k : KeySeen) → ends (Until moment.now) k (map.get self.now.state.reservations k) ≡ false) (λ k. ends (Until moment.now) k (map.get self.now.state.reservations k) ≡ true) }
+    {
+        self.reservations.one_until(moment)
     }
 
     // The account of that number, if there is one.

@@ -42,11 +42,29 @@ fn replace(first: &mut HashMap<u32, u32>, session: u32, group: Option<u32>)
 
 impl Groups {
     pub fn new(alloc: Global) -> Groups
-        ensures { IsChained result }
+        ensures chained { IsChained result }
+        ensures none { (t : ℕ) → first_of result t ≡ None }
     {
         Groups {
             first: HashMap::new(alloc),
             next: HashMap::new(alloc),
+        }
+    }
+
+    /// Makes room for that many more.
+    pub fn make_room(&mut self, n: usize) -> Result<(), AllocError>
+        requires chained { IsChained self.old }
+        ensures chained { IsChained self.new }
+        ensures first { (t : ℕ) → first_of self.new t ≡ first_of self.old t }
+        ensures next { (k : KeySeen) → next_of self.new k ≡ next_of self.old k }
+        ensures room_first { OnOk result (n ≤ spare self.new.first) }
+        ensures room_next { OnOk result (n ≤ spare self.new.next) }
+    {
+        let first = self.first.reserve(n);
+        let next = self.next.reserve(n);
+        match (first, next) {
+            (Ok(()), Ok(())) => Ok(()),
+            _ => Err(AllocError),
         }
     }
 

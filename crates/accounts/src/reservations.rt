@@ -1,58 +1,110 @@
-ghost use Rattle.std.specs.Prelude.{◌≡◌, ◌≤◌, ◌<◌, ◌+◌, OnOk, MatchOption, None, true, false};
+ghost use Rattle.std.specs.Prelude.{◌≡◌, ◌≢◌, ◌≤◌, ◌<◌, ◌+◌, ◌↔◌, ◌∷◌, [], ℕ, IsTrue, is_some, OnOk, MatchOption, Contains, None, Some, true, false};
 ghost use Rattle.std.specs.FinMap as map;
-ghost use Rattle.std.specs.HashMap.{get, values};
+ghost use Rattle.std.specs.HashMap.{get, spare};
 ghost use Rattle.accounts.specs.declared.reservation.Key.{Key as KeySeen};
-ghost use Rattle.accounts.specs.Reservations.{left_of, key_eq};
+ghost use Rattle.accounts.specs.declared.due.Due.{Due as DueSeen};
+ghost use Rattle.accounts.specs.Reservations.{at, left_of, key_eq};
 ghost use Rattle.accounts.specs.Moves.{lessened};
-ghost use Rattle.accounts.specs.Endings.{is_ending, ends};
-ghost use Rattle.accounts.specs.Deadlines.{IsLeast, nearer, least_value};
+ghost use Rattle.accounts.specs.Endings.{ends, Session, Until};
+ghost use Rattle.accounts.specs.Deadlines.{deadline_of, IsLeast};
+ghost use Rattle.accounts.specs.Chains.{IsChained};
+ghost use Rattle.accounts.specs.Indexes.{due_at, AreDue, IsQueued, AreLinked, LatestIsThere, IsGrouped};
 
+use crate::due::{Deadlines, Due};
+use crate::groups::Groups;
 use crate::reservation::{Key, Reservation};
 use std::alloc::{AllocError, Global};
 use std::collections::HashMap;
 use std::marker::Model;
 use units::Moment;
 
-/// What ends reservations.
-#[derive(Clone, Copy, Debug)]
-pub enum Ending {
-    /// The session is released.
-    Session(u32),
-    /// The time has come to this moment.
-    Until(Moment),
-}
-
-impl Ending {
-    /// Whether it ends the reservation.
-    pub fn takes(&self, key: &Key, reservation: &Reservation) -> bool
-        ensures { result ≡ is_ending self.now key.now reservation.now }
-    {
-        match *self {
-            Ending::Session(session) => key.session == session,
-            Ending::Until(moment) => match reservation.deadline {
-                Some(deadline) => deadline.seconds() <= moment.seconds(),
-                None => false,
-            },
-        }
-    }
-}
-
-/// The reservations of all sessions.
+/// The reservations of all sessions, with their deadlines and the groups of each session.
 #[derive(Drop)]
 pub struct Reservations {
     table: HashMap<Key, Reservation>,
+    due: Deadlines,
+    groups: Groups,
 }
 
 impl Model for Reservations {
+    ghost use Rattle.std.specs.Prelude.{min, is_some};
     ghost use Rattle.std.specs.FinMap as map;
-    ghost use Rattle.std.specs.HashMap.{spare};
-    ghost use Rattle.accounts.specs.Reservations.{Stored, coded_stored};
+    ghost use Rattle.std.specs.HashMap.{get, spare};
+    ghost use Rattle.accounts.specs.Reservations.{Stored, coded_stored, key_eq};
+    ghost use Rattle.accounts.specs.Deadlines.{deadline_of};
+    ghost use Rattle.accounts.specs.Indexes.{IsQueued, IsGrouped};
 
     ghost Value = { Stored };
 
     ghost coded = { coded_stored };
 
-    ghost view = { λ r. record { of = map.from_entries r.table.entries; spare = spare r.table } };
+    ghost view = { λ r. record { of = map.from_entries r.table.entries; spare = min (min (spare r.table) r.due.spare) (min (spare r.groups.first) (spare r.groups.next)) } };
+
+    ghost invariant = { λ r. IsQueued (λ k. deadline_of (get key_eq r.table k)) r.due.dues × IsGrouped (λ k. is_some (get key_eq r.table k)) r.groups };
+}
+
+// Whether this is the deadline of a reservation.
+fn is_due(table: &HashMap<Key, Reservation>, due: &Due) -> bool
+    ensures { IsTrue result ↔ (deadline_of (get key_eq table.now (at due.now.session due.now.group)) ≡ Some due.now.deadline) }
+{
+    let key = Key {
+        session: due.session,
+        group: due.group,
+    };
+    match table.get(&key) {
+        Some(reservation) => match reservation.deadline {
+            Some(deadline) => deadline.seconds() == due.deadline,
+            None => false,
+        },
+        None => false,
+    }
+}
+
+// Takes away what is due first, until that is the deadline of a reservation.
+fn settle_due(table: &HashMap<Key, Reservation>, due: &mut Deadlines)
+    requires { AreDue (λ k. deadline_of (get key_eq table.now k)) due.old.dues }
+    ensures queued { IsQueued (λ k. deadline_of (get key_eq table.now k)) due.new.dues }
+    ensures room { due.old.spare ≤ due.new.spare }
+{
+    while let Some(first) = due.first() {
+        if is_due(table, &first) {
+            return;
+        }
+        due.pop();
+    }
+}
+
+// Adds a deadline, if there is one.
+fn enter_due(due: &mut Deadlines, key: &Key, deadline: &Option<Moment>)
+    requires { 0 < due.old.spare }
+    ensures added { (d : ℕ) → deadline.now ≡ Some d → Contains due.new.dues (due_at d key.now.session key.now.group) }
+    ensures kept { (d : DueSeen) → Contains due.old.dues d → Contains due.new.dues d }
+    ensures room { due.old.spare ≤ due.new.spare + 1 }
+{
+    if let Some(deadline) = deadline {
+        due.push(Due {
+            deadline: deadline.seconds(),
+            session: key.session,
+            group: key.group,
+        });
+    }
+}
+
+// Takes groups of a session off its chain, until the latest has a reservation.
+fn settle_groups(table: &HashMap<Key, Reservation>, groups: &mut Groups, session: u32)
+    requires chained { IsChained groups.old }
+    requires linked { AreLinked (λ k. is_some (get key_eq table.now k)) groups.old }
+    requires latest { (t : ℕ) → t ≢ session → LatestIsThere (λ k. is_some (get key_eq table.now k)) groups.old t }
+    ensures grouped { IsGrouped (λ k. is_some (get key_eq table.now k)) groups.new }
+    ensures first { spare groups.old.first ≤ spare groups.new.first }
+    ensures next { spare groups.old.next ≤ spare groups.new.next }
+{
+    while let Some(group) = groups.latest(session) {
+        if table.contains_key(&Key { session, group }) {
+            return;
+        }
+        groups.unlink(session, group);
+    }
 }
 
 impl Reservations {
@@ -61,6 +113,8 @@ impl Reservations {
     {
         Reservations {
             table: HashMap::new(alloc),
+            due: Deadlines::new(alloc),
+            groups: Groups::new(alloc),
         }
     }
 
@@ -69,7 +123,13 @@ impl Reservations {
         ensures room { OnOk result (n ≤ self.new.spare) }
         ensures same { self.new.of ≡ self.old.of }
     {
-        self.table.reserve(n)
+        let table = self.table.reserve(n);
+        let due = self.due.make_room(n);
+        let groups = self.groups.make_room(n);
+        match (table, due, groups) {
+            (Ok(()), Ok(()), Ok(())) => Ok(()),
+            _ => Err(AllocError),
+        }
     }
 
     /// The reservation at a key.
@@ -89,10 +149,9 @@ impl Reservations {
         }
     }
 
-    /// Puts a reservation at a key that has none.
+    /// Puts a reservation at a key.
     pub fn put(&mut self, key: &Key, reservation: &Reservation)
-        requires spare { 0 < self.old.spare }
-        requires none { map.get self.old.of key.now ≡ None }
+        requires { 0 < self.old.spare }
         ensures value { self.new.of ≡ map.insert self.old.of key.now reservation.now }
         ensures room { self.old.spare ≤ self.new.spare + 1 }
     {
@@ -109,6 +168,9 @@ impl Reservations {
                 deadline,
             },
         );
+        enter_due(&mut self.due, key, &deadline);
+        settle_due(&self.table, &mut self.due);
+        self.groups.link(key);
     }
 
     /// Takes an amount from the reservation at a key. One of which nothing is left is none.
@@ -138,52 +200,46 @@ impl Reservations {
         ensures room { self.old.spare ≤ self.new.spare }
     {
         let _ = self.table.remove(key);
+        settle_due(&self.table, &mut self.due);
+        settle_groups(&self.table, &mut self.groups, key.session);
     }
 
-    /// A reservation that is ended, if there is one.
-    pub fn ending(&self, ending: &Ending) -> Option<Key>
-        ensures { MatchOption result ((k : KeySeen) → ends ending.now k (map.get self.now.of k) ≡ false) (λ k. ends ending.now k (map.get self.now.of k) ≡ true) }
+    /// A reservation of a session, if it has one.
+    pub fn one_of(&self, session: u32) -> Option<Key>
+        ensures { MatchOption result ((k : KeySeen) → ends (Session session) k (map.get self.now.of k) ≡ false) (λ k. ends (Session session) k (map.get self.now.of k) ≡ true) }
     {
-        find_in(&self.table, ending)
+        match self.groups.latest(session) {
+            Some(group) => Some(Key { session, group }),
+            None => None,
+        }
+    }
+
+    /// A reservation whose deadline is at most the moment, if there is one.
+    pub fn one_until(&self, moment: &Moment) -> Option<Key>
+        ensures { MatchOption result ((k : KeySeen) → ends (Until moment.now) k (map.get self.now.of k) ≡ false) (λ k. ends (Until moment.now) k (map.get self.now.of k) ≡ true) }
+    {
+        match self.due.first() {
+            Some(due) if due.deadline <= moment.seconds() => Some(Key {
+                session: due.session,
+                group: due.group,
+            }),
+            _ => None,
+        }
     }
 
     /// The least deadline, if there is one.
     pub fn next_deadline(&self) -> Option<Moment>
         ensures { IsLeast self.now.of result }
     {
-        let _len = self.table.len();
-        least_in(&self.table)
-    }
-}
-
-fn find_in(table: &HashMap<Key, Reservation>, ending: &Ending) -> Option<Key>
-    ensures { MatchOption result ((k : KeySeen) → ends ending.now k (get key_eq table.now k) ≡ false) (λ k. ends ending.now k (get key_eq table.now k) ≡ true) }
-{
-    let _len = table.len();
-    for (key, reservation) in table {
-        if ending.takes(key, reservation) {
-            return Some(*key);
+        match self.due.first() {
+            Some(due) => match self.get(&Key {
+                session: due.session,
+                group: due.group,
+            }) {
+                Some(reservation) => reservation.deadline,
+                None => None,
+            },
+            None => None,
         }
     }
-    None
-}
-
-fn nearer(a: Option<Moment>, b: Option<Moment>) -> Option<Moment>
-    ensures { result ≡ nearer a b }
-{
-    match (a, b) {
-        (Some(x), Some(y)) => Some(x.min(y)),
-        (Some(x), None) => Some(x),
-        (None, other) => other,
-    }
-}
-
-fn least_in(table: &HashMap<Key, Reservation>) -> Option<Moment>
-    ensures { result ≡ least_value (values table.now) }
-{
-    let mut least = None;
-    for reservation in table.values() {
-        least = nearer(least, reservation.deadline);
-    }
-    least
 }

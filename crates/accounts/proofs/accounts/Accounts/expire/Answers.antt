@@ -2,7 +2,7 @@ use Rattle.std.proofs.Common.{ap, sym, ◌∙◌, arith}
 use Rattle.std.specs.FinMap as map
 use Rattle.accounts.proofs.Tables.{without_removed, without_none, len_removed}
 use Rattle.accounts.proofs.accounts.Accounts.expire.Goals as goal
-use Rattle.accounts.specs.declared.reservations.Ending.TheVariants.{Until}
+use Rattle.accounts.specs.Endings.{Until}
 use Rattle.accounts.specs.Endings.{without}
 use Rattle.accounts.specs.Ledger.{State}
 

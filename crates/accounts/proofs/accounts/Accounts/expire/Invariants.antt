@@ -1,11 +1,11 @@
 use Rattle.std.proofs.Common.{◌≡◌, ◌+◌, ◌≤◌}
 use Rattle.std.specs.FinMap as map
 use Rattle.accounts.proofs.accounts.Accounts.expire.Given as goal
-use Rattle.accounts.specs.Endings.{without}
+use Rattle.accounts.specs.Endings.{without, Until}
 
 abbrev pub invariant-loop-key : goal.invariant-loop-key
 invariant-loop-key l = record {
-  stays : without l.self.state.reservations l.ending ≡ without l.fn.self.state.reservations l.ending;
+  stays : without l.self.state.reservations (Until l.moment) ≡ without l.fn.self.state.reservations (Until l.moment);
   accounts : l.self.state.accounts ≡ l.fn.self.state.accounts;
   lines : l.self.state.lines ≡ l.fn.self.state.lines;
   count : l.count + map.len l.self.state.reservations ≡ map.len l.fn.self.state.reservations;

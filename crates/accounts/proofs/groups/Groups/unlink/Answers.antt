@@ -1,8 +1,7 @@
-use Rattle.std.proofs.Common.{◌≡◌, ◌==◌, ◌+◌, cond, is_some, sym, ap, subst, ◌∙◌}
-use Rattle.std.specs.HashMap.{get, hash_map_len}
+use Rattle.std.proofs.Common.{◌≡◌, ◌==◌, ◌+◌, cond, is_some, ap, subst, ◌∙◌}
+use Rattle.std.specs.HashMap.{hash_map_len}
 use Rattle.std.specs.Prelude.{if◌then◌else◌}
 use Rattle.std.specs.Option.{option_flatten}
-use Rattle.accounts.specs.Reservations.{key_eq, at}
 use Rattle.accounts.specs.Chains.{first_of, next_of}
 use Rattle.accounts.proofs.Chained.{unlink_chained, latest_linked}
 use Rattle.accounts.proofs.groups.Groups.unlink.Goals as goal
@@ -10,7 +9,7 @@ use Rattle.accounts.proofs.groups.Groups.unlink.Goals as goal
 pub returns-clause-chained : goal.returns-clause-chained
 returns-clause-chained c =
     unlink_chained (first_of c.args.self.now) _ (next_of c.args.self.now) _ c.args.session c.args.group c.requires.chained c.requires.latest
-        (λ u. c.replace.ensures.value u ∙ ap (λ w. cond (c.args.session == u) w (first_of c.args.self.now u)) (c.flatten-after.ensures ∙ ap option_flatten c.remove.ensures.value)) c.remove.ensures.updates.0
+    (λ u. c.replace.ensures.value u ∙ ap (λ w. cond (c.args.session == u) w (first_of c.args.self.now u)) (c.flatten-after.ensures ∙ ap option_flatten c.remove.ensures.value)) c.remove.ensures.updates.0
 
 pub returns-clause-len : goal.returns-clause-len
 returns-clause-len c =
