@@ -1,5 +1,5 @@
 -- The laws of each account over every list of moves.
-use Rattle.std.proofs.Common.{◌≡◌, ◌≢◌, ◌≤◌, ℕ, ◌+◌, Bool, true, false, cond, not, ◌&&◌, ◌||◌, List, [], ◌∷◌, Option, Some, None, refl, sym, ap, ◌∙◌, subst, arith, sum_by}
+use Rattle.std.proofs.Common.{◌-◌, ◌≡◌, ◌≢◌, ◌≤◌, ℕ, ◌+◌, Bool, true, false, cond, not, ◌&&◌, ◌||◌, List, [], ◌∷◌, Option, Some, None, refl, sym, ap, ◌∙◌, subst, arith, sum_by}
 use Rattle.std.proofs.lemmas.Bool.Decides.{nat_tests}
 use Rattle.std.proofs.lemmas.List.Sums.{sum_by-cons}
 use Rattle.std.specs.declared.cmp.Ordering.{Ordering}
@@ -111,6 +111,24 @@ module _ (g : Ending) where
   -- what stays is set aside for no more than before
   pub less_without : (b : ℕ) (m : ReservationMap) → sum_by (share b) (map.values (without m g)) ≤ sum_by (share b) (map.values m)
   less_without b m = subst (λ n. sum_by (share b) (map.values n) ≤ sum_by (share b) (map.values m)) (all_steps m) (less_steps b (keys_of (map.entries m)) m)
+
+  fewer_step : (m : ReservationMap) (k : Key) → map.len (step m k) ≤ map.len m
+  fewer_step m k = elim (ends g k (map.get m k)) as (λ e. map.len (cond e (map.remove m k) m) ≤ map.len m) [
+    | true ↦ subst (λ n. n ≤ map.len m) (sym (map.len-remove keys_total m k)) (either (map.contains_key m k))
+    | false ↦ omega arith
+  ]
+    where
+      either : (b : Bool) → cond b (map.len m - 1) (map.len m) ≤ map.len m
+      either true = omega arith
+      either false = omega arith
+
+  fewer_steps : (ks : List Key) (m : ReservationMap) → map.len (steps ks m) ≤ map.len m
+  fewer_steps [] m = omega arith
+  fewer_steps (k ∷ ks) m = let rest = fewer_steps ks (step m k) in let one = fewer_step m k in omega arith
+
+  -- and no more stay than were there
+  pub fewer_without : (m : ReservationMap) → map.len (without m g) ≤ map.len m
+  fewer_without m = subst (λ n. map.len n ≤ map.len m) (all_steps m) (fewer_steps (keys_of (map.entries m)) m)
 
 sound_without : (s : State) (g : Ending) (b : ℕ) → IsSound s b → IsSound (record s { reservations = without s.reservations g }) b
 sound_without s g b h = record { balance = let less = less_without g b s.reservations in let k = h.balance in omega arith; debits = h.debits }

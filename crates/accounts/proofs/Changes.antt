@@ -20,7 +20,7 @@ use Rattle.accounts.specs.Reservations.{at, key_cmp, keys_total, ReservationMap,
 use Rattle.accounts.specs.Ledger.{Numbers, State, nothing, numbers, left, share, reserved, free, from_own, from_free, uncovered}
 use Rattle.accounts.specs.Moves.{ToppedUp, Charged, Reserved, Released, topped_up, debited, lessened_at, lessened, after}
 use Rattle.accounts.specs.Numbers.{numbers_of}
-use Rattle.accounts.specs.Caches.{no_account, state_seen, IsSound, AreKept}
+use Rattle.accounts.specs.Caches.{IsStanding, no_account, state_seen, IsSound, AreKept}
 
 pub read_is : (xs : List Account) (a : ℕ) (x : Account) → a < length xs → x ≡ slice_index_or xs a x → slice_index_or xs a no_account ≡ x
 read_is xs a x lt e = get_or_default xs a no_account x lt ∙ sym e
@@ -48,27 +48,27 @@ is_tied Equal e = refl
 is_tied Greater e = cc
 
 abbrev pub AreKnown : ℕ → ReservationMap → Type 0
-AreKnown n m = (k : Key) → IfSome (map.get m k) (λ h. h.account < n)
+AreKnown n m = (k : Key) → IfSome (map.get m k) (IsStanding n)
 
 either : (c : Bool) (v w : Option Reservation) (P : Reservation → Type 0) → IfSome v P → IfSome w P → IfSome (cond c v w) P
 either true v w P p q = p
 either false v w P p q = q
 
-pub known_insert : (n : ℕ) (m : ReservationMap) (k : Key) (h : Reservation) → AreKnown n m → h.account < n → AreKnown n (map.insert m k h)
-known_insert n m k h a p q = subst (λ v. IfSome v (λ h. h.account < n)) (sym (map.get-insert keys_total m k h q)) (either (eq_by_cmp key_cmp q k) (Some h) (map.get m q) (λ h. h.account < n) p (a q))
+pub known_insert : (n : ℕ) (m : ReservationMap) (k : Key) (h : Reservation) → AreKnown n m → IsStanding n h → AreKnown n (map.insert m k h)
+known_insert n m k h a p q = subst (λ v. IfSome v (IsStanding n)) (sym (map.get-insert keys_total m k h q)) (either (eq_by_cmp key_cmp q k) (Some h) (map.get m q) (IsStanding n) p (a q))
 
 pub known_remove : (n : ℕ) (m : ReservationMap) (k : Key) → AreKnown n m → AreKnown n (map.remove m k)
-known_remove n m k a q = subst (λ v. IfSome v (λ h. h.account < n)) (sym (map.get-remove keys_total m k q)) (either (eq_by_cmp key_cmp q k) None (map.get m q) (λ h. h.account < n) tt (a q))
+known_remove n m k a q = subst (λ v. IfSome v (IsStanding n)) (sym (map.get-remove keys_total m k q)) (either (eq_by_cmp key_cmp q k) None (map.get m q) (IsStanding n) tt (a q))
 
 pub known_less : (n : ℕ) (m : ReservationMap) (k : Key) (x : ℕ) → AreKnown n m → AreKnown n (lessened m k x)
 known_less n m k x a = by_case (map.get m k) (a k)
   where
-    by_case : (w : Option Reservation) → IfSome w (λ h. h.account < n) → AreKnown n (lessened_at m k x w)
+    by_case : (w : Option Reservation) → IfSome w (IsStanding n) → AreKnown n (lessened_at m k x w)
     by_case None p = a
-    by_case (Some h) p = elim (nat_le h.left x) as (λ b. AreKnown n (cond b (map.remove m k) (map.insert m k (record { account = h.account; left = h.left - x; deadline = h.deadline })))) [
-      | true ↦ known_remove n m k a
-      | false ↦ known_insert n m k _ a p
-    ]
+    by_case (Some h) p = elim (nat_le h.left x) as (λ b. nat_le h.left x ≡ b → AreKnown n (cond b (map.remove m k) (map.insert m k (record { account = h.account; left = h.left - x; deadline = h.deadline })))) [
+      | true ↦ λ t. known_remove n m k a
+      | false ↦ λ t. known_insert n m k _ a (p.0, (let q : x < h.left = grind (arith, nat_tests) in omega arith))
+    ] refl
 
 set_length : (xs : List Account) (a : ℕ) (one : Account) → length (slice_set xs a one) ≡ length xs
 set_length xs a one = simp length-set
@@ -156,7 +156,7 @@ none_set_aside a = ap (λ es. sum_by (share a) (each (λ (e : Key × Reservation
     no_entries (x ∷ es) e = absurd (omega arith)
 
 pub empty_kept : AreKept [] map.empty []
-empty_kept = record { sums = λ a. sym (none_set_aside a); sound = λ a. record { balance = let n = none_set_aside a in omega arith; debits = refl }; known = λ q. subst (λ v. IfSome v (λ h. h.account < 0)) (sym (map.get-empty key_cmp q)) tt }
+empty_kept = record { sums = λ a. sym (none_set_aside a); sound = λ a. record { balance = let n = none_set_aside a in omega arith; debits = refl }; known = λ q. subst (λ v. IfSome v (IsStanding 0)) (sym (map.get-empty key_cmp q)) tt }
 
 -- a change of reservations alone, where each other account's are as before
 pub reservations_stand : (xs : List Account) (m n : ReservationMap) (ls : List Line) (a : ℕ) (old one : Account) → AreKept xs m ls → a < length xs → old ≡ slice_index_or xs a old
@@ -219,7 +219,7 @@ removed_other m k h b e n =
 
 within : (xs : List Account) (m : ReservationMap) (ls : List Line) (k : Key) (h : Reservation) (old : Account) → AreKept xs m ls → map.get m k ≡ Some h → old ≡ slice_index_or xs h.account old → (h.account < length xs) × (h.left ≤ old.reserved)
 within xs m ls k h old kept e is =
-    let lt : h.account < length xs = subst (λ w. IfSome w (λ z. z.account < length xs)) e (kept.known k) in
+    let lt : h.account < length xs = (subst (λ w. IfSome w (IsStanding (length xs))) e (kept.known k)).0 in
     let was = read_is xs h.account old lt is in
     let r : old.reserved ≡ sum_by (share h.account) (map.values m) = sym (ap (λ z. z.reserved) was) ∙ kept.sums h.account in
     let q = removed_own m k h e in
@@ -266,7 +266,7 @@ reserve_stands xs m ls a t g x d old one kept lt is e le nz n r =
     let f = free_within xs m ls a old kept lt is in
     let t1 : one.taken ≡ old.taken = ap (λ z. z.taken) n in
     let t2 : one.topups ≡ old.topups = ap (λ z. z.topups) n in
-    let st = reservations_stand xs m (map.insert m (at t g) h) ls a old one kept lt is n (omega arith) (omega arith) (λ b ne. inserted_other m (at t g) a x b d e ne) (known_insert (length xs) m (at t g) h kept.known lt) in
+    let st = reservations_stand xs m (map.insert m (at t g) h) ls a old one kept lt is n (omega arith) (omega arith) (λ b ne. inserted_other m (at t g) a x b d e ne) (known_insert (length xs) m (at t g) h kept.known (lt, omega arith)) in
     let z : ◌==◌ x 0 ≡ false = grind (arith, nat_tests) in
     record { kept = st.kept; state = st.state ∙ ap (λ b. record (state_seen xs m ls) { reservations = cond b m (map.insert m (at t g) h) }) (sym z) }
 

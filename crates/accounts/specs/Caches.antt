@@ -2,6 +2,7 @@
 use Rattle.std.specs.Prelude.{◌≡◌, ℕ, ◌+◌, ◌-◌, ◌<◌, ◌≤◌, min, List, length, map as each, vec_len, vec_capacity, slice_index_or, IfSome}
 use Rattle.std.specs.FinMap as map
 use Rattle.accounts.specs.declared.reservation.Key.{Key}
+use Rattle.accounts.specs.declared.reservation.Reservation.{Reservation}
 use Rattle.accounts.specs.declared.line.Line.{Line}
 use Rattle.accounts.specs.declared.account.Account.{Account}
 use Rattle.accounts.specs.declared.accounts.Accounts.TheInside.{Inside}
@@ -22,11 +23,15 @@ pub record IsSound (s : State) (account : ℕ) : Type 0 where
   pub balance : reserved s account + (numbers s account).taken ≤ (numbers s account).topups
   pub debits : debits s.lines account ≡ (numbers s account).taken + (numbers s account).owed
 
+-- a reservation is of an account that there is, and something is left of it
+abbrev pub IsStanding : ℕ → Reservation → Type 0
+IsStanding accounts r = (r.account < accounts) × (0 < r.left)
+
 -- each account keeps the sum of its reservations
 pub record AreKept (accounts : List Account) (reservations : ReservationMap) (lines : List Line) : Type 0 where
   pub sums : (a : ℕ) → (slice_index_or accounts a no_account).reserved ≡ reserved (state_seen accounts reservations lines) a
   pub sound : (a : ℕ) → IsSound (state_seen accounts reservations lines) a
-  pub known : (key : Key) → IfSome (map.get reservations key) (λ r. r.account < length accounts)
+  pub known : (key : Key) → IfSome (map.get reservations key) (IsStanding (length accounts))
 
 -- the value of the accounts
 abbrev pub contents : Inside → Contents

@@ -1,5 +1,5 @@
 -- Which reservations a release of a session, or the time, ends (this product's own).
-use Rattle.std.specs.Prelude.{ℕ, ◌==◌, nat_le, not, Bool, false, Option, Some, None}
+use Rattle.std.specs.Prelude.{ℕ, ◌-◌, ◌==◌, nat_le, not, Bool, false, Option, Some, None}
 use Rattle.std.specs.FinMap as map
 use Rattle.accounts.specs.declared.reservation.Key.{Key}
 use Rattle.accounts.specs.declared.reservation.Reservation.{Reservation}
@@ -28,3 +28,7 @@ ends ending key (Some r) = is_ending ending key r
 -- the reservations that stay
 abbrev pub without : ReservationMap → Ending → ReservationMap
 without m ending = map.retain_keys m (λ key. not (ends ending key (map.get m key)))
+
+-- how many end
+abbrev pub count_ending : ReservationMap → Ending → ℕ
+count_ending m ending = map.len m - map.len (without m ending)

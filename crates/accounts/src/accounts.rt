@@ -2,7 +2,7 @@ ghost use Rattle.std.specs.Prelude.{◌≡◌, ◌≤◌, ◌<◌, ◌+◌, ◌-
 ghost use Rattle.std.specs.FinMap as map;
 ghost use Rattle.accounts.specs.declared.reservation.Key.{Key as KeySeen};
 ghost use Rattle.accounts.specs.Reservations.{at, left_of};
-ghost use Rattle.accounts.specs.Endings.{ends, Session, Until};
+ghost use Rattle.accounts.specs.Endings.{count_ending, ends, Session, Until};
 ghost use Rattle.accounts.specs.Ledger.{State, numbers, balance, left, reserved, free, from_own, from_free, uncovered};
 ghost use Rattle.accounts.specs.Moves.{Added, ToppedUp, Charged, Reserved, Released, ReleasedAll, Expired, after, empty_state};
 ghost use Rattle.accounts.specs.Answers.{where_known, reserve_answer};
@@ -199,9 +199,9 @@ impl Accounts {
 
     /// Gives back what is left of each reservation whose deadline is at most the moment, and answers how many.
     pub fn expire(&mut self, moment: Moment) -> u32
-        requires few { map.len self.old.state.reservations < 2 ^ 32 }
+        requires few { count_ending self.old.state.reservations (Until moment) < 2 ^ 32 }
         ensures state { self.new.state ≡ after (Expired moment) self.old.state }
-        ensures count { result + map.len self.new.state.reservations ≡ map.len self.old.state.reservations }
+        ensures count { result ≡ count_ending self.old.state.reservations (Until moment) }
         ensures spare { self.old.spare ≤ self.new.spare }
     {
         let mut count = 0;
@@ -295,7 +295,8 @@ impl Accounts {
 
     /// What is left of the reservation of a session and rating group, 0 where there is none.
     pub fn left(&self, session: u32, group: u32) -> u128
-        ensures { result ≡ left self.now.state (at session group) }
+        ensures value { result ≡ left self.now.state (at session group) }
+        ensures none { result ≡ 0 → map.get self.now.state.reservations (at session group) ≡ None }
     {
         self.reservations.left(&Key { session, group })
     }

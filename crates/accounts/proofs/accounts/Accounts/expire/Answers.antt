@@ -1,6 +1,7 @@
-use Rattle.std.proofs.Common.{ap, sym, ◌∙◌, arith}
+use Rattle.std.proofs.Common.{◌≡◌, ap, sym, ◌∙◌, arith}
 use Rattle.std.specs.FinMap as map
 use Rattle.accounts.proofs.Tables.{without_removed, without_none, len_removed}
+use Rattle.accounts.proofs.Books.{fewer_without}
 use Rattle.accounts.proofs.accounts.Accounts.expire.Goals as goal
 use Rattle.accounts.specs.Endings.{Until}
 use Rattle.accounts.specs.Endings.{without}
@@ -8,8 +9,12 @@ use Rattle.accounts.specs.Ledger.{State}
 
 pub overflow_add-count : goal.overflow_add-count
 overflow_add-count c =
-    let n = len_removed c.loop-key.self.state.reservations (Until c.args.moment) c.in-Some.key c.in-Some.ensures in
-    omega (arith, c.loop-key.invariant.count)
+    let s = c.loop-key.self.state.reservations in
+    let k = c.in-Some.key in
+    let n = len_removed s (Until c.args.moment) k c.in-Some.ensures in
+    let fewer = fewer_without (Until c.args.moment) (map.remove s k) in
+    let same : map.len (without (map.remove s k) (Until c.args.moment)) ≡ map.len (without c.args.self.now.state.reservations (Until c.args.moment)) = ap map.len (without_removed s (Until c.args.moment) k c.in-Some.ensures ∙ c.loop-key.invariant.stays) in
+    omega (arith, c.loop-key.invariant.count, c.requires)
 
 pub loop-key-smaller : goal.loop-key-smaller
 loop-key-smaller c =
@@ -35,3 +40,9 @@ returns-clause-state c =
     let s = c.loop-key.self.state in
     let h = sym (without_none s.reservations (Until c.args.moment) c.in_default.ensures) ∙ c.loop-key.invariant.stays in
     λ i. record { accounts = c.loop-key.invariant.accounts i; reservations = h i; lines = c.loop-key.invariant.lines i }
+
+pub returns-clause-count : goal.returns-clause-count
+returns-clause-count c =
+    let s = c.loop-key.self.state.reservations in
+    let same : map.len s ≡ map.len (without c.args.self.now.state.reservations (Until c.args.moment)) = ap map.len (sym (without_none s (Until c.args.moment) c.in_default.ensures) ∙ c.loop-key.invariant.stays) in
+    omega (arith, c.loop-key.invariant.count)
