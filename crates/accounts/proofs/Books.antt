@@ -137,7 +137,7 @@ sound_after : (s : State) (m : Move) (b : ℕ) → IsAllowed s m → IsSound s b
 sound_after s Added b allowed h = sound_add s b h
 sound_after s (ToppedUp a x) b allowed h = sound_topup s a x b allowed h
 sound_after s (Charged a t g lsn x) b allowed h = sound_charge s a t g lsn x b allowed.0 allowed.1 h
-sound_after s (Reserved a t g x d) b allowed h = sound_reserve s a t g x d b allowed.0 allowed.1 h
+sound_after s (Reserved a t g x d) b allowed h = sound_reserve s a t g x d b allowed.1 allowed.2 h
 sound_after s (Released t g) b allowed h = sound_release s t g b h
 sound_after s (ReleasedAll t) b allowed h = sound_without s (Session t) b h
 sound_after s (Expired m) b allowed h = sound_without s (Until m) b h

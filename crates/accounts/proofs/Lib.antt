@@ -7,3 +7,4 @@ pub mod Dues
 pub mod Books
 pub mod Chained
 pub mod Indexed
+pub mod Slow

@@ -1,5 +1,5 @@
 -- The entries of a hash table, as a finite map.
-use Rattle.std.proofs.Common.{◌≡◌, ◌≢◌, ◌<◌, nat_le, ◌+◌, ◌-◌, not, ℕ, Bool, true, false, cond, ◌&&◌, ◌||◌, List, [], ◌∷◌, Option, Some, None, refl, sym, ap, ◌∙◌, subst, arith}
+use Rattle.std.proofs.Common.{◌≡◌, ◌≢◌, ◌<◌, ◌≤◌, nat_le, ◌+◌, ◌-◌, not, ℕ, Bool, true, false, cond, ◌&&◌, ◌||◌, List, [], ◌∷◌, Option, Some, None, refl, sym, ap, ◌∙◌, subst, arith}
 use Rattle.std.specs.declared.cmp.Ordering.{Ordering}
 use Rattle.std.specs.declared.cmp.Ordering.TheVariants.{Less, Equal, Greater}
 use Rattle.std.specs.Ordering.{nat_cmp, ordering_then, eq_by_cmp, is_eq}
@@ -134,3 +134,10 @@ from_found (Err y) w x P absent e p = absurd (cc)
 -- what the table has at a key is what the map has
 pub stored_at : (es : List (Key × Reservation)) (m : ReservationMap) → from_entries {R = key_cmp} es ≡ m → (q : Key) → lookup (key_eq q) es ≡ get m q
 stored_at es m e q = sym (get_key es q) ∙ ap (λ n. get n q) e
+
+-- what is left where all is taken
+pub lessened_all : (m : ReservationMap) (k : Key) (x : ℕ) (r : Reservation) → get m k ≡ Some r → r.left ≤ x → lessened m k x ≡ remove m k
+lessened_all m k x r e le = ap (lessened_at m k x) e ∙ ap (λ b. cond b (remove m k) (insert m k (record { account = r.account; left = r.left - x; deadline = r.deadline }))) all
+  where
+    all : nat_le r.left x ≡ true
+    all = grind (arith, nat_tests)

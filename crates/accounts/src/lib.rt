@@ -8,6 +8,8 @@ mod due;
 mod groups;
 mod laws;
 mod line;
+#[cfg(test)]
+mod plain;
 mod refusal;
 mod reservation;
 mod reservations;
@@ -17,3 +19,6 @@ pub use charge::Charge;
 pub use laws::{accounts_balance, reservations_hold};
 pub use line::Line;
 pub use refusal::AccountRefusal;
+
+#[cfg(test)]
+mod tests;

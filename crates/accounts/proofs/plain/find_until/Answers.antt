@@ -1,0 +1,29 @@
+use Rattle.std.proofs.Common.{◌≡◌, ◌==◌, ◌≤◌, ◌-◌, ◌+◌, ◌^◌, min, Some, None, true, false, cond, is_some, map as each, sum_by, slice_set, length, sym, ap, subst, ◌∙◌, arith}
+use Rattle.std.specs.FinMap as map
+use Rattle.std.specs.HashMap.{get, values, hash_map_len}
+use Rattle.std.specs.Map.{lookup}
+use Rattle.std.specs.Prelude.{if◌then◌else◌}
+use Rattle.std.specs.List.{list_any}
+use Rattle.std.specs.Map.Iter.{deref_pair}
+use Rattle.std.proofs.lemmas.Map.Iter.{hash_map_turn}
+use Rattle.std.proofs.lemmas.Bool.Decides.{nat_tests}
+use Rattle.std.proofs.lemmas.List.{map-set}
+use Rattle.accounts.specs.declared.reservation.Key.{Key}
+use Rattle.accounts.specs.declared.reservation.Reservation.{Reservation}
+use Rattle.accounts.specs.Reservations.{key_eq, key_cmp, at, ReservationMap}
+use Rattle.accounts.specs.Endings.{ends, is_ending, is_passed, Session, Until, without}
+use Rattle.accounts.specs.Ledger.{State, share, Numbers}
+use Rattle.accounts.specs.Moves.{lessened}
+use Rattle.accounts.specs.Numbers.{numbers_of}
+use Rattle.accounts.specs.Caches.{state_seen}
+use Rattle.accounts.proofs.Tables.{stored_at, one_set, one_removed, none_goes, key_equiv, from_found, lessened_more, lessened_all}
+use Rattle.accounts.proofs.Slow.{sum_entries, some_ends, without_one, without_all, sum_step}
+use Rattle.accounts.proofs.plain.find_until.Goals as goal
+
+pub returns-then-is_over : goal.returns-then-is_over
+returns-then-is_over c =
+    let turn = hash_map_turn deref_pair c.loop-key.yielded c.into_iter-key-iterator.result c.loop-key.key-iterator c.next.new.self c.next.result (c.in-Some.key, c.in-Some.reservation) c.loop-key.yielded_by c.in-Some.is c.next.ensures.steps key_equiv c.args.table.now c.into_iter-key-iterator.ensures.into_iter_gives.0 c.len-len.ensures.unique in
+    ap (ends (Until c.args.moment.now) c.in-Some.key.now) turn.1 ∙ sym c.is_over.ensures ∙ c.if-is_over.true
+
+pub returns : goal.returns
+returns c = none_goes (Until c.args.moment.now) c.args.table.now.entries (c.loop-key.invariant ∙ ap (list_any (λ e. is_ending (Until c.args.moment.now) e.0 e.1)) c.in-None.ensures.steps.0)
