@@ -8,3 +8,4 @@ pub mod Books
 pub mod Chained
 pub mod Indexed
 pub mod Slow
+pub mod Nearest

@@ -1,5 +1,5 @@
 -- What the slow ledger works out.
-use Rattle.std.proofs.Common.{◌≡◌, ◌+◌, ◌-◌, ◌^◌, min, ℕ, Bool, true, false, cond, List, [], ◌∷◌, Option, Some, None, is_some, refl, sym, ap, ◌∙◌, subst, arith, sum_by}
+use Rattle.std.proofs.Common.{◌≡◌, ◌≤◌, length, ◌+◌, ◌-◌, ◌^◌, min, ℕ, Bool, true, false, cond, List, [], ◌∷◌, Option, Some, None, is_some, refl, sym, ap, ◌∙◌, subst, arith, sum_by}
 use Rattle.std.proofs.lemmas.List.Sums.{sum_by-cons}
 use Rattle.std.proofs.lemmas.Map.{NonePasses, lookup-none}
 use Rattle.std.proofs.lemmas.Map.Entries.{none_past_head}
@@ -52,3 +52,16 @@ without_all g es h = Rattle.accounts.proofs.Tables.without_none (map.from_entrie
 -- a step of the sum
 pub sum_step : (total x rest all most : ℕ) → min (total + (x + rest)) most ≡ min all most → min (min (total + x) most + rest) most ≡ min all most
 sum_step total x rest all most h = omega arith
+
+-- no more keys than entries
+pub len_entries : (es : List (Key × Reservation)) → map.len (map.from_entries {R = key_cmp} es) ≤ length es
+len_entries [] = let e : map.len (map.from_entries {R = key_cmp} []) ≡ 0 = ap map.len (map.same_map keys_total exact_keys (map.from_entries {R = key_cmp} []) map.empty (λ q. map.get-from_entries keys_total [] q ∙ sym (map.get-empty key_cmp q))) ∙ map.len-empty key_cmp Reservation in omega arith
+len_entries (e ∷ es) =
+    let rest = len_entries es in
+    let more : map.len (map.from_entries {R = key_cmp} (e ∷ es)) ≡ cond (map.contains_key (map.from_entries {R = key_cmp} es) e.0) (map.len (map.from_entries {R = key_cmp} es)) (map.len (map.from_entries {R = key_cmp} es) + 1) = ap map.len (one_more e es) ∙ map.len-insert keys_total (map.from_entries {R = key_cmp} es) e.0 e.1 in
+    let most = either (map.contains_key (map.from_entries {R = key_cmp} es) e.0) (map.len (map.from_entries {R = key_cmp} es)) in
+    omega arith
+  where
+    either : (b : Bool) (n : ℕ) → cond b n (n + 1) ≤ n + 1
+    either true n = omega arith
+    either false n = omega arith

@@ -5,6 +5,7 @@ pub mod Moves
 pub mod Deadlines
 pub mod Answers
 pub mod Balanced
+pub mod Plain
 pub mod Since
 pub mod Chains
 pub mod Due

@@ -5,6 +5,8 @@ ghost use Rattle.std.specs.HashMap.{get, values};
 ghost use Rattle.accounts.specs.declared.reservation.Key.{Key as KeySeen};
 ghost use Rattle.accounts.specs.Reservations.{at, key_eq, key_cmp};
 ghost use Rattle.accounts.specs.Endings.{ends, is_passed, Session, Until, without};
+ghost use Rattle.accounts.specs.Deadlines.{IsLeast};
+ghost use Rattle.accounts.specs.Plain.{nearer, nearest};
 ghost use Rattle.accounts.specs.Numbers.{numbers_of};
 ghost use Rattle.accounts.specs.Ledger.{numbers, left, share, reserved, free};
 ghost use Rattle.accounts.specs.Moves.{Added, ToppedUp, Charged, Reserved, Released, ReleasedAll, Expired, after, empty_state, lessened};
@@ -91,6 +93,26 @@ fn find_until(table: &HashMap<Key, Reservation>, moment: &Moment) -> Option<Key>
     None
 }
 
+fn nearer(a: Option<Moment>, b: Option<Moment>) -> Option<Moment>
+    ensures { result ≡ nearer a b }
+{
+    match (a, b) {
+        (Some(x), Some(y)) => Some(x.min(y)),
+        (Some(x), None) => Some(x),
+        (None, other) => other,
+    }
+}
+
+fn nearest(table: &HashMap<Key, Reservation>) -> Option<Moment>
+    ensures { result ≡ nearest (values table.now) }
+{
+    let mut nearest = None;
+    for reservation in table.values() {
+        nearest = nearer(nearest, reservation.deadline);
+    }
+    nearest
+}
+
 fn drop_of(table: &mut HashMap<Key, Reservation>, session: u32)
     ensures { map.from_entries table.new.entries ≡ without (map.from_entries {R = key_cmp} table.old.entries) (Session session) }
 {
@@ -156,6 +178,19 @@ impl Plain {
             Some(reservation) => reservation.left,
             None => 0,
         }
+    }
+
+    pub fn len(&self) -> usize
+        ensures { map.len self.now.reservations ≤ result }
+    {
+        self.table.len()
+    }
+
+    pub fn next_deadline(&self) -> Option<Moment>
+        ensures { IsLeast self.now.reservations result }
+    {
+        let _len = self.table.len();
+        nearest(&self.table)
     }
 
     pub fn lines(&self) -> &[Line]
