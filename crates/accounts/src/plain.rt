@@ -180,6 +180,12 @@ impl Plain {
         }
     }
 
+    pub fn total(&self) -> usize
+        ensures { result ≡ length self.now.accounts }
+    {
+        self.accounts.len()
+    }
+
     pub fn len(&self) -> usize
         ensures { map.len self.now.reservations ≤ result }
     {
