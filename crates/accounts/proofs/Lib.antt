@@ -9,3 +9,5 @@ pub mod Chained
 pub mod Indexed
 pub mod Slow
 pub mod Nearest
+pub mod Stepped
+pub mod Owners

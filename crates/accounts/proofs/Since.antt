@@ -32,14 +32,14 @@ left_standing a r d = ⊎_elim
     no : (r : ℕ) → r ≢ 0 → (r == 0) ≡ false
     no r e = grind (arith, nat_tests)
 
-tied : (k : Key) → eq_by_cmp key_cmp k k ≡ true
+pub tied : (k : Key) → eq_by_cmp key_cmp k k ≡ true
 tied k = ap is_eq (tied_itself keys_total k)
 
-tests : (j k : Key) → eq_by_cmp key_cmp k j ≡ key_eq j k
+pub tests : (j k : Key) → eq_by_cmp key_cmp k j ≡ key_eq j k
 tests j k = (eq_by_cmp_equiv keys_total).symm k j ∙ tied_keys j k
 
 -- after a charge to another key
-less_apart : (m : ReservationMap) (j k : Key) (y : ℕ) → key_eq j k ≡ false → map.get (lessened m j y) k ≡ map.get m k
+pub less_apart : (m : ReservationMap) (j k : Key) (y : ℕ) → key_eq j k ≡ false → map.get (lessened m j y) k ≡ map.get m k
 less_apart m j k y n = by_case (map.get m j)
   where
     by_case : (w : Option Reservation) → map.get (lessened_at m j y w) k ≡ map.get m k

@@ -22,10 +22,10 @@ at_write xs a b n P lt same other = ⊎_elim
     (λ (e : b ≢ a). subst P (sym (get_or-set_other xs a b n nothing e)) (other e))
     (cases_eq b a)
 
-share_is : (h : Reservation) (b : ℕ) → h.account ≡ b → share b h ≡ h.left
+pub share_is : (h : Reservation) (b : ℕ) → h.account ≡ b → share b h ≡ h.left
 share_is h b e = grind (arith, nat_tests)
 
-share_not : (h : Reservation) (b : ℕ) → h.account ≢ b → share b h ≡ 0
+pub share_not : (h : Reservation) (b : ℕ) → h.account ≢ b → share b h ≡ 0
 share_not h b e = grind (arith, nat_tests)
 
 set_aside : ℕ → ReservationMap → ℕ

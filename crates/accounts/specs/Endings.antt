@@ -1,5 +1,5 @@
 -- Which reservations a release of a session, or the time, ends (this product's own).
-use Rattle.std.specs.Prelude.{ℕ, ◌-◌, ◌==◌, nat_le, not, Bool, false, Option, Some, None}
+use Rattle.std.specs.Prelude.{◌≡◌, ℕ, ◌-◌, ◌==◌, nat_le, not, Bool, true, false, Option, Some, None}
 use Rattle.std.specs.FinMap as map
 use Rattle.accounts.specs.declared.reservation.Key.{Key}
 use Rattle.accounts.specs.declared.reservation.Reservation.{Reservation}
@@ -24,6 +24,11 @@ is_ending (Until moment) key r = is_passed moment r.deadline
 abbrev pub ends : Ending → Key → Option Reservation → Bool
 ends ending key None = false
 ends ending key (Some r) = is_ending ending key r
+
+-- this key's reservation ends, or none does
+abbrev pub IsOneEnding : ReservationMap → Ending → Option Key → Type 0
+IsOneEnding m ending None = (key : Key) → ends ending key (map.get m key) ≡ false
+IsOneEnding m ending (Some key) = ends ending key (map.get m key) ≡ true
 
 -- the reservations that stay
 abbrev pub without : ReservationMap → Ending → ReservationMap

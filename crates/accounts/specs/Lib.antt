@@ -7,6 +7,7 @@ pub mod Answers
 pub mod Balanced
 pub mod Plain
 pub mod Since
+pub mod Steps
 pub mod Chains
 pub mod Due
 pub mod Indexes

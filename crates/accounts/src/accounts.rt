@@ -2,7 +2,7 @@ ghost use Rattle.std.specs.Prelude.{◌≡◌, ◌≤◌, ◌<◌, ◌+◌, ◌-
 ghost use Rattle.std.specs.FinMap as map;
 ghost use Rattle.accounts.specs.declared.reservation.Key.{Key as KeySeen};
 ghost use Rattle.accounts.specs.Reservations.{at, left_of};
-ghost use Rattle.accounts.specs.Endings.{count_ending, ends, Session, Until};
+ghost use Rattle.accounts.specs.Endings.{count_ending, IsOneEnding, Session, Until};
 ghost use Rattle.accounts.specs.Ledger.{State, numbers, balance, left, reserved, free, from_own, from_free, uncovered};
 ghost use Rattle.accounts.specs.Moves.{Added, ToppedUp, Charged, Reserved, Released, ReleasedAll, Expired, after, empty_state};
 ghost use Rattle.accounts.specs.Answers.{where_known, reserve_answer};
@@ -214,14 +214,14 @@ impl Accounts {
 
     // A reservation of a session, if it has one.
     fn one_of(&self, session: u32) -> Option<Key>
-        ensures { MatchOption result ((k : KeySeen) → ends (Session session) k (map.get self.now.state.reservations k) ≡ false) (λ k. ends (Session session) k (map.get self.now.state.reservations k) ≡ true) }
+        ensures { IsOneEnding self.now.state.reservations (Session session) result }
     {
         self.reservations.one_of(session)
     }
 
     // A reservation whose deadline is at most the moment, if there is one.
     fn one_until(&self, moment: &Moment) -> Option<Key>
-        ensures { MatchOption result ((k : KeySeen) → ends (Until moment.now) k (map.get self.now.state.reservations k) ≡ false) (λ k. ends (Until moment.now) k (map.get self.now.state.reservations k) ≡ true) }
+        ensures { IsOneEnding self.now.state.reservations (Until moment.now) result }
     {
         self.reservations.one_until(moment)
     }

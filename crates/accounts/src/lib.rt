@@ -3,6 +3,8 @@
 
 mod account;
 mod accounts;
+#[cfg(test)]
+mod both;
 mod charge;
 mod due;
 mod groups;
@@ -16,7 +18,7 @@ mod reservations;
 
 pub use accounts::Accounts;
 pub use charge::Charge;
-pub use laws::{accounts_balance, reservations_hold};
+pub use laws::{accounts_balance, moves_change_free, reservations_hold, reservations_stay};
 pub use line::Line;
 pub use refusal::AccountRefusal;
 

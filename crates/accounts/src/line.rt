@@ -5,7 +5,7 @@ pub struct Line {
     pub account: u32,
     /// The session.
     pub session: u32,
-    /// The container's local sequence number (TS 32.291, 6.1.6.2.1.3).
+    /// The local sequence number of the used unit container (TS 32.290, 6.1.1.3).
     pub lsn: u32,
     /// The amount charged, below 2^94.
     pub amount: u128,

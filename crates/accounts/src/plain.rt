@@ -70,7 +70,8 @@ fn is_over(reservation: &Reservation, moment: &Moment) -> bool
 }
 
 fn find_of(table: &HashMap<Key, Reservation>, session: u32) -> Option<Key>
-    ensures { MatchOption result ((k : KeySeen) → ends (Session session) k (get key_eq table.now k) ≡ false) (λ k. ends (Session session) k (get key_eq table.now k) ≡ true) }
+    ensures { MatchOption result ((k : KeySeen) → ends (Session session) k (get key_eq table.now k) ≡ false)
+        (λ k. ends (Session session) k (get key_eq table.now k) ≡ true) }
 {
     let _len = table.len();
     for (key, _reservation) in table {
@@ -82,7 +83,8 @@ fn find_of(table: &HashMap<Key, Reservation>, session: u32) -> Option<Key>
 }
 
 fn find_until(table: &HashMap<Key, Reservation>, moment: &Moment) -> Option<Key>
-    ensures { MatchOption result ((k : KeySeen) → ends (Until moment.now) k (get key_eq table.now k) ≡ false) (λ k. ends (Until moment.now) k (get key_eq table.now k) ≡ true) }
+    ensures { MatchOption result ((k : KeySeen) → ends (Until moment.now) k (get key_eq table.now k) ≡ false)
+        (λ k. ends (Until moment.now) k (get key_eq table.now k) ≡ true) }
 {
     let _len = table.len();
     for (key, reservation) in table {

@@ -5,7 +5,7 @@ ghost use Rattle.accounts.specs.declared.reservation.Key.{Key as KeySeen};
 ghost use Rattle.accounts.specs.declared.due.Due.{Due as DueSeen};
 ghost use Rattle.accounts.specs.Reservations.{at, left_of, key_eq};
 ghost use Rattle.accounts.specs.Moves.{lessened};
-ghost use Rattle.accounts.specs.Endings.{ends, Session, Until};
+ghost use Rattle.accounts.specs.Endings.{IsOneEnding, Session, Until};
 ghost use Rattle.accounts.specs.Deadlines.{deadline_of, IsLeast};
 ghost use Rattle.accounts.specs.Chains.{IsChained};
 ghost use Rattle.accounts.specs.Indexes.{due_at, AreDue, IsQueued, AreLinked, LatestIsThere, IsGrouped};
@@ -206,7 +206,7 @@ impl Reservations {
 
     /// A reservation of a session, if it has one.
     pub fn one_of(&self, session: u32) -> Option<Key>
-        ensures { MatchOption result ((k : KeySeen) → ends (Session session) k (map.get self.now.of k) ≡ false) (λ k. ends (Session session) k (map.get self.now.of k) ≡ true) }
+        ensures { IsOneEnding self.now.of (Session session) result }
     {
         match self.groups.latest(session) {
             Some(group) => Some(Key { session, group }),
@@ -216,7 +216,7 @@ impl Reservations {
 
     /// A reservation whose deadline is at most the moment, if there is one.
     pub fn one_until(&self, moment: &Moment) -> Option<Key>
-        ensures { MatchOption result ((k : KeySeen) → ends (Until moment.now) k (map.get self.now.of k) ≡ false) (λ k. ends (Until moment.now) k (map.get self.now.of k) ≡ true) }
+        ensures { IsOneEnding self.now.of (Until moment.now) result }
     {
         match self.due.first() {
             Some(due) if due.deadline <= moment.seconds() => Some(Key {
