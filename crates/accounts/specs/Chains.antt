@@ -39,5 +39,6 @@ pub record IsChain (next : Key → Option (Option ℕ)) (session : ℕ) (first :
 abbrev pub AreChained : (ℕ → Option ℕ) → (Key → Option (Option ℕ)) → Type 0
 AreChained first next = (session : ℕ) → (groups : List ℕ) × IsChain next session (first session) groups
 
+-- so in these tables
 abbrev pub IsChained : Groups → Type 0
 IsChained g = AreChained (first_of g) (next_of g)

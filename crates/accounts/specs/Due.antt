@@ -11,9 +11,11 @@ pub record Queue : Type 0 where
   pub dues : List Due
   pub spare : ℕ
 
+-- how these are coded, as a model asks
 abbrev pub coded_due : Coded Due
 coded_due = code_by (ℕ × (ℕ × ℕ)) (coded× coded_ℕ (coded× coded_ℕ coded_ℕ)) (λ d. (d.deadline, (d.session, d.group))) (λ p. record { deadline = p.0; session = p.1.0; group = p.1.1 }) (λ _. refl)
 
+-- the same of the queue
 abbrev pub coded_queue : Coded Queue
 coded_queue = code_by (List Due × ℕ) (coded× (coded_list coded_due) coded_ℕ) (λ q. (q.dues, q.spare)) (λ p. record { dues = p.0; spare = p.1 }) (λ _. refl)
 

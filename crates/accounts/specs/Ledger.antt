@@ -72,15 +72,19 @@ pub record Contents : Type 0 where
   pub state : State
   pub spare : ℕ
 
+-- how these are coded, as a model asks: an account,
 abbrev pub coded_numbers : Coded Numbers
 coded_numbers = code_by (ℕ × (ℕ × ℕ)) (coded× coded_ℕ (coded× coded_ℕ coded_ℕ)) (λ n. (n.topups, (n.taken, n.owed))) (λ p. record { topups = p.0; taken = p.1.0; owed = p.1.1 }) (λ _. refl)
 
+-- a line,
 abbrev pub coded_line : Coded Line
 coded_line = code_by (ℕ × (ℕ × (ℕ × ℕ))) (coded× coded_ℕ (coded× coded_ℕ (coded× coded_ℕ coded_ℕ))) (λ n. (n.account, (n.session, (n.lsn, n.amount)))) (λ p. record { account = p.0; session = p.1.0; lsn = p.1.1.0; amount = p.1.1.1 }) (λ _. refl)
 
+-- the state,
 abbrev pub coded_state : Coded State
 coded_state = code_by (List Numbers × (ReservationMap × List Line)) (coded× (coded_list coded_numbers) (coded× (map.code coded_key coded_reservation) (coded_list coded_line)))
     (λ s. (s.accounts, (s.reservations, s.lines))) (λ p. record { accounts = p.0; reservations = p.1.0; lines = p.1.1 }) (λ _. refl)
 
+-- and what callers see
 abbrev pub coded_contents : Coded Contents
 coded_contents = code_by (State × ℕ) (coded× coded_state coded_ℕ) (λ c. (c.state, c.spare)) (λ p. record { state = p.0; spare = p.1 }) (λ _. refl)

@@ -34,9 +34,11 @@ abbrev pub left_of : Option Reservation → ℕ
 left_of None = 0
 left_of (Some r) = r.left
 
+-- how these are coded, as a model asks: a key,
 abbrev pub coded_key : Coded Key
 coded_key = code_by (ℕ × ℕ) (coded× coded_ℕ coded_ℕ) (λ k. (k.session, k.group)) (λ p. record { session = p.0; group = p.1 }) (λ _. refl)
 
+-- a reservation,
 abbrev pub coded_reservation : Coded Reservation
 coded_reservation = code_by (ℕ × (ℕ × Option ℕ)) (coded× coded_ℕ (coded× coded_ℕ (coded_option coded_ℕ))) (λ r. (r.account, (r.left, r.deadline))) (λ p. record { account = p.0; left = p.1.0; deadline = p.1.1 }) (λ _. refl)
 
@@ -45,5 +47,6 @@ pub record Stored : Type 0 where
   pub of : ReservationMap
   pub spare : ℕ
 
+-- and all of them
 abbrev pub coded_stored : Coded Stored
 coded_stored = code_by (ReservationMap × ℕ) (coded× (map.code coded_key coded_reservation) coded_ℕ) (λ s. (s.of, s.spare)) (λ p. record { of = p.0; spare = p.1 }) (λ _. refl)

@@ -18,6 +18,7 @@ pub record ChargeTakes (s : State) (m : Move) (account : ℕ) (key : Key) (amoun
   pub left : left (after m s) key ≡ left s key - amount
   pub others : LeavesOthers s m account key
 
+-- so does each, where the account is there and in balance, and its own reservation is of it
 abbrev pub ChargesTake : Type 0
 ChargesTake = (s : State) (account session group lsn amount : ℕ) → account < length s.accounts
     → IfSome (map.get s.reservations (at session group)) (λ r. r.account ≡ account) → IsBalanced s account
@@ -29,6 +30,7 @@ pub record ReserveTakes (s : State) (m : Move) (account : ℕ) (key : Key) (amou
   pub left : left (after m s) key ≡ amount
   pub others : LeavesOthers s m account key
 
+-- so does each, where there was none
 abbrev pub ReservesTake : Type 0
 ReservesTake = (s : State) (account session group amount : ℕ) (deadline : Option ℕ)
     → map.get s.reservations (at session group) ≡ None
@@ -40,6 +42,7 @@ pub record ReleaseGives (s : State) (m : Move) (account : ℕ) (key : Key) : Typ
   pub left : left (after m s) key ≡ 0
   pub others : LeavesOthers s m account key
 
+-- so does each, where the account is in balance and the reservation is of it
 abbrev pub ReleasesGive : Type 0
 ReleasesGive = (s : State) (account session group : ℕ)
     → IfSome (map.get s.reservations (at session group)) (λ r. r.account ≡ account) → IsBalanced s account

@@ -1,9 +1,8 @@
-ghost use Rattle.std.specs.Prelude.{◌≡◌, ◌≤◌, ◌<◌, ◌+◌, ◌-◌, ◌^◌, ℕ, min, length, IfSome, MatchOption, Some, None, OnOk, OnErr, true, false};
+ghost use Rattle.std.specs.Prelude.{◌≡◌, ◌≤◌, ◌<◌, ◌+◌, ◌-◌, ◌^◌, ℕ, length, IfSome, MatchOption, None, OnOk, OnErr};
 ghost use Rattle.std.specs.FinMap as map;
-ghost use Rattle.accounts.specs.declared.reservation.Key.{Key as KeySeen};
-ghost use Rattle.accounts.specs.Reservations.{at, left_of};
+ghost use Rattle.accounts.specs.Reservations.{at};
 ghost use Rattle.accounts.specs.Endings.{count_ending, IsOneEnding, Session, Until};
-ghost use Rattle.accounts.specs.Ledger.{State, numbers, balance, left, reserved, free, from_own, from_free, uncovered};
+ghost use Rattle.accounts.specs.Ledger.{numbers, balance, left, reserved, free, from_own, from_free, uncovered};
 ghost use Rattle.accounts.specs.Moves.{Added, ToppedUp, Charged, Reserved, Released, ReleasedAll, Expired, after, empty_state};
 ghost use Rattle.accounts.specs.Answers.{where_known, reserve_answer};
 ghost use Rattle.accounts.specs.Deadlines.{IsLeast};

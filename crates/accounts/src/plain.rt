@@ -1,5 +1,5 @@
 //! The accounts once more, plainly and slowly: what is set aside and free is worked out anew from the reservations each time.
-ghost use Rattle.std.specs.Prelude.{◌≡◌, ◌≤◌, ◌<◌, ◌+◌, ◌-◌, ◌^◌, ◌++◌, ◌∷◌, [], ℕ, min, length, map as each, sum_by, slice_set, option_map, IfSome, MatchOption, None, Some, OnOk, true, false};
+ghost use Rattle.std.specs.Prelude.{◌≡◌, ◌≤◌, ◌<◌, ◌+◌, ◌-◌, ◌^◌, min, length, map as each, sum_by, slice_set, MatchOption, None, Some, OnOk, true, false};
 ghost use Rattle.std.specs.FinMap as map;
 ghost use Rattle.std.specs.HashMap.{get, values};
 ghost use Rattle.accounts.specs.declared.reservation.Key.{Key as KeySeen};

@@ -1,7 +1,6 @@
-ghost use Rattle.std.specs.Prelude.{◌≡◌, ◌≢◌, ◌≤◌, ◌<◌, ◌+◌, ◌↔◌, ◌∷◌, [], ℕ, IsTrue, is_some, OnOk, MatchOption, Contains, None, Some, true, false};
+ghost use Rattle.std.specs.Prelude.{◌≡◌, ◌≢◌, ◌≤◌, ◌<◌, ◌+◌, ◌↔◌, ℕ, IsTrue, is_some, OnOk, Contains, None, Some, false};
 ghost use Rattle.std.specs.FinMap as map;
 ghost use Rattle.std.specs.HashMap.{get, spare};
-ghost use Rattle.accounts.specs.declared.reservation.Key.{Key as KeySeen};
 ghost use Rattle.accounts.specs.declared.due.Due.{Due as DueSeen};
 ghost use Rattle.accounts.specs.Reservations.{at, left_of, key_eq};
 ghost use Rattle.accounts.specs.Moves.{lessened};
