@@ -1,0 +1,8 @@
+use Rattle.std.proofs.Common.{◌≡◌, ◌<◌, ℕ, refl, arith, length, length-set, sym, ◌∙◌, ap, rules, slice_set}
+use Rattle.accounts.specs.Ledger.{State, Numbers, Contents}
+use Rattle.accounts.specs.Moves.{Charged, Released, Reserved, ToppedUp, Added, empty_state, after}
+use Rattle.benchmarks.proofs.Firsts.{kept, kept_or_same}
+use Rattle.benchmarks.proofs.account_turns.release.Goals as goal
+
+pub returns : goal.returns
+returns c = kept c.reservations_stay.ensures.owners c.args.accounts.now.state c.release.new.self.state (Released c.args.session c.args.group) c.requires refl c.release.ensures.state c.requires.exists

@@ -1,0 +1,63 @@
+//! Turns of library calls for the scripts under bench/: `benchmarks CALL NUMBER..` makes them and prints a checksum.
+#![tactic(auto)]
+
+mod account_turns;
+mod draws;
+mod rating_turns;
+
+use crate::account_turns::charges;
+use crate::rating_turns::prices;
+use rows::number;
+use std::alloc::Global;
+use std::process::ExitCode;
+use std::{env, io};
+use units::{List, OutOfMemory};
+
+// The words after the program's name: a call, and numbers.
+fn words(rt: &HostRuntime) -> Result<(String, List<u64>), OutOfMemory> {
+    let alloc = rt.alloc();
+    let mut call = String::new(alloc);
+    let mut numbers = List::new(alloc);
+    if let Ok(args) = env::args(rt) {
+        for (place, word) in args.skip(1).enumerate() {
+            if place == 0 {
+                call = word;
+            } else {
+                numbers.push(number(u64::MAX, word.as_bytes()).unwrap_or(0))?;
+            }
+        }
+    }
+    Ok((call, numbers))
+}
+
+// The checksum of that many turns of a call, where there is such a call.
+fn checksum(alloc: Global, call: &str, numbers: &[u64]) -> Result<Option<u64>, OutOfMemory> {
+    match (call, numbers) {
+        ("rating", [groups, periods, turns]) => prices(alloc, *groups, *periods, *turns).map(Some),
+        ("accounts", [sessions, groups, active, turns]) => {
+            charges(alloc, *sessions, *groups, *active, *turns).map(Some)
+        },
+        _ => Ok(None),
+    }
+}
+
+fn run(rt: &HostRuntime) -> io::Result<ExitCode> {
+    let Ok((call, numbers)) = words(rt) else {
+        return Ok(ExitCode::from(9));
+    };
+    match checksum(rt.alloc(), call.as_str(), numbers.as_slice()) {
+        Ok(Some(sum)) => {
+            println!(rt; "{sum}")?;
+            Ok(ExitCode::SUCCESS)
+        }
+        Ok(None) => {
+            println!(rt; "error: usage")?;
+            Ok(ExitCode::from(1))
+        }
+        Err(OutOfMemory) => Ok(ExitCode::from(9)),
+    }
+}
+
+fn main(rt: HostRuntime) -> io::Result<ExitCode> {
+    run(&rt)
+}
