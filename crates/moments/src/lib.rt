@@ -1,0 +1,10 @@
+//! A moment as text (RFC 3339) and as a time stamp in BCD (TS 32.298).
+#![tactic(auto)]
+
+mod calendar;
+mod digits;
+mod stamp;
+mod text;
+
+pub use stamp::{from_bcd, to_bcd};
+pub use text::{read_time, write_time};
