@@ -34,13 +34,15 @@ civil_passes y m d h =
 pub day_found : (r : Option ℤ) (y m d : ℕ) → y ≤ 9999 → IsSome r ↔ IsDate (pos y) (pos m) (pos d) → IfSome r (λ n. n ≡ days_from_civil (pos y) m d) → r ≡ day_of y m d
 day_found (Some n) y m d small there value = let test = date_passes y m d (there.0 refl) in rw (value, test) refl
 day_found None y m d small there value = elim (cases_Bool (is_date y m d)) [
-    inl passes ↦ let here : IsSome {T = ℤ} None = there.1 (date_is y m d small passes) in cc
-  | inr fails ↦ rw fails refl ]
+  | inl passes ↦ let here : IsSome {T = ℤ} None = there.1 (date_is y m d small passes) in cc
+  | inr fails ↦ rw fails refl
+]
 
 out_of_range : (z : ℤ) → ((m : ℕ) → m ≤ 3155759999 → z ≢ pos m) → None ≡ in_range z
 out_of_range (pos n) none = elim (cases_lt 3155759999 n) [
-    inl above ↦ let test : nat_le n 3155759999 ≡ false = grind (arith, nat_tests, above) in rw test refl
-  | inr within ↦ absurd (none n within refl) ]
+  | inl above ↦ let test : nat_le n 3155759999 ≡ false = grind (arith, nat_tests, above) in rw test refl
+  | inr within ↦ absurd (none n within refl)
+]
 out_of_range (negsuc n) none = refl
 
 pub within_range : (m : ℕ) → m ≤ 3155759999 → Some m ≡ in_range (pos m)

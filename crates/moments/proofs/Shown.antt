@@ -47,8 +47,9 @@ last_is : (test : ℕ → Bool) (n k : ℕ) → 1 ≤ k → k ≤ n → test k �
 last_is test zero k low high passes later = absurd (omega arith)
 last_is test (suc n) k low high passes later =
     elim (cases_Bool (test (suc n))) [
-      inl here ↦ rw here (later_passes test n k high here later)
-    | inr fails ↦ rw fails (last_is test n k low (below_next test n k high passes fails) passes later) ]
+      | inl here ↦ rw here (later_passes test n k high here later)
+      | inr fails ↦ rw fails (last_is test n k low (below_next test n k high passes fails) passes later)
+    ]
 
 reached : (days y m d : ℕ) → day_count (pos y) m d ≤ days + 4371953 → is_reached days y m d ≡ true
 reached days y m d h = rw day_count-epoch (grind (arith, nat_tests, h))
@@ -122,11 +123,11 @@ split_is dt m range late e =
         from = omega (arith, signed_arith, year);
         until = omega (arith, signed_arith, year, early_year dt.date (m / 86_400) (omega arith) day);
         date = rw year (civil dt.date);
-        count = rw year (omega (arith, signed_arith, day, days_from_civil-day_count dt.date.year dt.date.month dt.date.day))
+        count = rw year (omega (arith, signed_arith, day, days_from_civil-day_count dt.date.year dt.date.month dt.date.day));
       };
       hour = clock.0;
       minute = clock.1;
-      second = clock.2
+      second = clock.2;
     }
 
 year_of_clock : (dt : DateTime) (time : LocalTime) (m : ℕ) → IsSplit dt m → IsShown dt time → time.year ≡ unsigned_abs dt.date.year
@@ -145,10 +146,15 @@ zulu_is dt time m split shown =
     let from = split.day.from in let until = split.day.until in
     let month = split.day.date.1.1 in let day = split.day.date.2.1 in
     record {
-      from = omega arith; until = omega arith;
-      month = omega arith; day = omega (arith, days_in_month_bounds (pos (unsigned_abs dt.date.year)) dt.date.month);
-      hour = omega arith; minute = omega arith; second = omega arith;
-      ahead = shown.ahead; behind = shown.behind
+      from = omega arith;
+      until = omega arith;
+      month = omega arith;
+      day = omega (arith, days_in_month_bounds (pos (unsigned_abs dt.date.year)) dt.date.month);
+      hour = omega arith;
+      minute = omega arith;
+      second = omega arith;
+      ahead = shown.ahead;
+      behind = shown.behind;
     }
 
 -- and has this moment

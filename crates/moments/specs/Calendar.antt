@@ -59,7 +59,7 @@ shown_at moment = record {
   minute = moment % 3600 / 60;
   second = moment % 60;
   ahead = 0;
-  behind = 0
+  behind = 0;
 }
 
 -- the day number of a date from 1970-01-01, where the calendar has the date

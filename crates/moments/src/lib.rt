@@ -8,3 +8,6 @@ mod text;
 
 pub use stamp::{from_bcd, to_bcd};
 pub use text::{read_time, write_time};
+
+#[cfg(test)]
+mod tests;
