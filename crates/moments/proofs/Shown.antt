@@ -1,12 +1,12 @@
 -- What `jiff` shows is what the definitions find.
-use Rattle.std.proofs.Common.{◌≡◌, ◌≤◌, ◌<◌, ◌+◌, ◌-◌, ◌*◌, ◌/◌, ◌%◌, ℕ, zero, suc, Bool, true, false, nat_le, refl, sym, ◌∙◌, ap, subst, arith, ℤ, pos, negsuc, unsigned_abs, ◌+ℤ◌, ◌*ℤ◌, ◌≤ℤ◌, ◌<ℤ◌, ◌-ℤ◌, Some, ◌⊎◌, inl, inr}
+use Rattle.std.proofs.Common.{◌≡◌, ◌≤◌, ◌<◌, ◌+◌, ◌*◌, ◌/◌, ◌%◌, ℕ, zero, suc, Bool, true, false, refl, sym, ◌∙◌, ap, arith, ℤ, pos, negsuc, unsigned_abs, ◌+ℤ◌, ◌*ℤ◌, ◌≤ℤ◌, ◌-ℤ◌, Some, inl, inr}
 use Rattle.std.proofs.lemmas.Bool.Decides.{nat_tests}
 use Rattle.std.proofs.lemmas.Bool.{cases_Bool, cases_lt, both_ways}
 use Rattle.std.proofs.lemmas.Int.{by_lt_z}
 use Rattle.jiff_core.proofs.SignedLemmas.{signed_arith}
 use Rattle.jiff_core.proofs.DateLemmas.{civil}
 use Rattle.jiff_core.proofs.CalendarLemmas.{days_from_civil-day_count, day_count-lt_year, day_count-lt_month, day_count-day, day_count-day_of_year, day_count-later_year, day_count-epoch, days_in_month_bounds}
-use Rattle.jiff_core.specs.Calendar.{day_count, days_from_civil, IsCivilDate, days_in_month}
+use Rattle.jiff_core.specs.Calendar.{day_count, days_from_civil, IsCivilDate}
 use Rattle.jiff_core.specs.Date.{epoch_day}
 use Rattle.jiff_core.specs.DateTime.{civil_nanos}
 use Rattle.jiff_core.specs.Time.{time_seconds}
@@ -16,7 +16,7 @@ use Rattle.moments.specs.declared.calendar.LocalTime.{LocalTime}
 use Rattle.jiff_core.proofs.MarchLemmas.{day_count-early}
 use Rattle.moments.proofs.Dates.{civil_passes, within_range}
 use Rattle.moments.specs.Text.{local_time}
-use Rattle.moments.specs.Calendar.{last_that, is_reached, is_date, is_clock, clock_seconds, moment_of, in_range, year_at, month_at, day_at, shown_at, IsShown, IsZulu}
+use Rattle.moments.specs.Calendar.{last_that, is_reached, is_date, is_clock, clock_seconds, moment_of, year_at, month_at, day_at, shown_at, IsShown, IsZulu}
 
 -- whole seconds of an instant with no fraction
 pub whole_seconds : (dt : DateTime) (n : ℤ) (m : ℕ) → civil_nanos dt ≡ n → n ≡ pos m *ℤ pos 1_000_000_000 → epoch_day dt.date *ℤ pos 86_400 +ℤ pos (time_seconds dt.time) ≡ pos m

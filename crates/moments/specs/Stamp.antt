@@ -1,5 +1,5 @@
 -- Time stamps of nine octets, after TS 32.298, 5.1.1.14 (TimeStamp).
-use Rattle.std.specs.Prelude.{ℕ, ◌+◌, ◌*◌, ◌/◌, ◌%◌, ◌-◌, ◌==◌, ◌&&◌, nat_le, if◌then◌else◌, List, [], ◌∷◌, slice_index, Option, Some, None, option_map, option_and_then}
+use Rattle.std.specs.Prelude.{ℕ, ◌+◌, ◌*◌, ◌/◌, ◌%◌, ◌==◌, ◌&&◌, nat_le, if◌then◌else◌, List, [], ◌∷◌, slice_index, Option, Some, None, option_map, option_and_then}
 use Rattle.moments.specs.declared.calendar.LocalTime.{LocalTime}
 use Rattle.moments.specs.Calendar.{moment_of, shown_at}
 use Rattle.moments.specs.Text.{offset_of, local_time}

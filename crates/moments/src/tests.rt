@@ -1,3 +1,5 @@
+ghost use Rattle.std.specs.Prelude.{◌≤◌};
+
 use crate::{from_bcd, read_time, to_bcd, write_time};
 use std::test::Fail;
 use units::Moment;
@@ -236,7 +238,9 @@ const STAMPS: &str = "\
     000000000000000000 -\n\
 ";
 
-fn hex_digit(byte: u8) -> u8 {
+fn hex_digit(byte: u8) -> u8
+    ensures { result ≤ 15 }
+{
     match byte {
         b'0'..=b'9' => byte - b'0',
         b'a'..=b'f' => byte - b'a' + 10,
@@ -246,10 +250,11 @@ fn hex_digit(byte: u8) -> u8 {
 
 fn octets(hex: &str) -> [u8; 9] {
     let mut octets = [0u8; 9];
-    let bytes = hex.as_bytes();
-    for i in 0..9 {
-        if 2 * i + 1 < bytes.len() {
-            octets[i] = hex_digit(bytes[2 * i]) * 16 + hex_digit(bytes[2 * i + 1]);
+    let mut rest = hex.as_bytes();
+    for octet in &mut octets {
+        if let [high, low, more @ ..] = rest {
+            *octet = hex_digit(*high) * 16 + hex_digit(*low);
+            rest = more;
         }
     }
     octets

@@ -1,4 +1,4 @@
-use Rattle.std.proofs.Common.{◌≡◌, ◌∙◌, ap, Some, option_and_then}
+use Rattle.std.proofs.Common.{◌∙◌, ap, option_and_then}
 use Rattle.moments.proofs.Reading.{octets_read}
 use Rattle.moments.specs.Calendar.{moment_of}
 use Rattle.moments.specs.Stamp.{stamp_time, stamp_octets, zulu_octets}

@@ -1,4 +1,4 @@
-use Rattle.std.proofs.Common.{◌≡◌, ◌∙◌, ap, Some, option_and_then}
+use Rattle.std.proofs.Common.{◌∙◌, ap, option_and_then}
 use Rattle.moments.proofs.Reading.{text_reads}
 use Rattle.moments.specs.Calendar.{moment_of}
 use Rattle.moments.specs.Text.{time_of, time_text, zulu_text}

@@ -1,5 +1,5 @@
-use Rattle.std.proofs.Common.{◌≡◌, ◌≤◌, ◌∙◌, ap, sym, arith, Some}
-use Rattle.moments.proofs.Shown.{split_is, shown_is, zulu_is, moment_is, IsSplit}
+use Rattle.std.proofs.Common.{◌≤◌, ◌∙◌, ap, arith, Some}
+use Rattle.moments.proofs.Shown.{split_is, shown_is, zulu_is, moment_is}
 use Rattle.moments.specs.Calendar.{shown_at}
 use Rattle.moments.proofs.calendar.LocalTime.at.Goals as goal
 
