@@ -1,0 +1,4 @@
+pub mod Fields
+pub mod Triggers
+pub mod Usage
+pub mod Request
