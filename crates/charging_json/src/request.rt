@@ -5,7 +5,8 @@ ghost use Rattle.serde_json.specs.View.{view};
 ghost use Rattle.serde_json.specs.Find.{as_bool};
 ghost use Rattle.units.specs.Answers.{IsOrNoMemory};
 ghost use Rattle.units.specs.declared.refusal.JsonRefusal.TheVariants as refusal;
-ghost use Rattle.charging_json.specs.Fields.{given, number_32, time, name, text_that, list_of, required, allowed, required_if};
+ghost use Rattle.units.specs.declared.request.Request as spec;
+ghost use Rattle.charging_json.specs.Fields.{given, number_32, time, name, text_that, list_of, or_empty, required, allowed, required_if};
 ghost use Rattle.charging_json.specs.Triggers.{sound_kind};
 ghost use Rattle.charging_json.specs.Usage.{entry_of, short_list_of};
 ghost use Rattle.charging_json.specs.Request.{IsBody, consumer_of, consumer_place, charging_id_place, is_visible, is_address, is_create, request_of, SpellsRequest};
@@ -69,4 +70,191 @@ fn sequence_number(alloc: Global, value: &Value) -> Result<u32, JsonRefusal>
         None => None,
     };
     required(alloc, "invocationSequenceNumber", found)
+}
+
+fn subscriber(
+    alloc: Global,
+    operation: Operation,
+    value: &Value,
+) -> Result<Option<Text>, JsonRefusal>
+    ensures { IsOrNoMemory refusal.OutOfMemory result (required_if (is_create operation) (codes "subscriberIdentifier") (option_map name (given (codes "subscriberIdentifier") (view value.now)))) }
+{
+    let found = match given(value, "subscriberIdentifier") {
+        Some(found) => Some(owned(alloc, name(found))?),
+        None => None,
+    };
+    required_if(alloc, is_create(operation), "subscriberIdentifier", found)
+}
+
+// Whether it is a Create, in which subscriber and charging id have to be there.
+fn is_create(operation: Operation) -> bool
+    ensures { result ≡ is_create operation }
+{
+    match operation {
+        Operation::Create => true,
+        Operation::Update(_) => false,
+        Operation::Release(_) => false,
+    }
+}
+
+// Where the charging id stands.
+fn charging_id_place(value: &Value) -> Option<&Value>
+    ensures { option_map (λ v. view v.now) result ≡ charging_id_place (view value.now) }
+{
+    match given(value, "chargingId") {
+        Some(found) => Some(found),
+        None => match given(value, "pDUSessionChargingInformation") {
+            Some(session) => given(session, "chargingId"),
+            None => None,
+        },
+    }
+}
+
+fn charging_id(
+    alloc: Global,
+    operation: Operation,
+    value: &Value,
+) -> Result<Option<u32>, JsonRefusal>
+    ensures { IsOrNoMemory refusal.OutOfMemory result (required_if (is_create operation) (codes "chargingId") (option_map number_32 (charging_id_place (view value.now)))) }
+{
+    let found = match charging_id_place(value) {
+        Some(found) => Some(number_32(found)),
+        None => None,
+    };
+    required_if(alloc, is_create(operation), "chargingId", found)
+}
+
+fn again(alloc: Global, value: &Value) -> Result<Option<bool>, JsonRefusal>
+    ensures { IsOrNoMemory refusal.OutOfMemory result (allowed (codes "retransmissionIndicator") (option_map as_bool (given (codes "retransmissionIndicator") (view value.now)))) }
+{
+    let found = match given(value, "retransmissionIndicator") {
+        Some(found) => Some(found.as_bool()),
+        None => None,
+    };
+    allowed(alloc, "retransmissionIndicator", found)
+}
+
+fn are_visible(text: &[u8]) -> bool
+    ensures { result ≡ list_all is_visible text.now }
+{
+    text.iter().all(|byte| 33 <= *byte && *byte <= 126)
+}
+
+// Whether a text may be an address for notifications.
+fn is_address(text: &[u8]) -> bool
+    ensures { result ≡ is_address text.now }
+{
+    1 <= text.len() && text.len() <= 255 && are_visible(text)
+}
+
+fn address(value: &Value) -> Option<&str>
+    ensures { option_map (λ t. t.now) result ≡ text_that is_address (view value.now) }
+{
+    match value.as_str() {
+        Some(text) => if is_address(text.as_bytes()) {
+            Some(text)
+        } else {
+            None
+        },
+        None => None,
+    }
+}
+
+fn notify(alloc: Global, value: &Value) -> Result<Option<Text>, JsonRefusal>
+    ensures { IsOrNoMemory refusal.OutOfMemory result (allowed (codes "notifyUri") (option_map (text_that is_address) (given (codes "notifyUri") (view value.now)))) }
+{
+    let found = match given(value, "notifyUri") {
+        Some(found) => Some(owned(alloc, address(found))?),
+        None => None,
+    };
+    allowed(alloc, "notifyUri", found)
+}
+
+fn usage(
+    alloc: Global,
+    stamp: Moment,
+    value: &Value,
+) -> Result<Option<List<UnitUsage>>, JsonRefusal>
+    ensures { IsOrNoMemory refusal.OutOfMemory result (allowed (codes "multipleUnitUsage") (option_map (short_list_of (entry_of stamp)) (given (codes "multipleUnitUsage") (view value.now)))) }
+{
+    let found = match given(value, "multipleUnitUsage") {
+        Some(found) => Some(entries(alloc, stamp, found)?),
+        None => None,
+    };
+    allowed(alloc, "multipleUnitUsage", found)
+}
+
+fn triggers(alloc: Global, value: &Value) -> Result<Option<List<Text>>, JsonRefusal>
+    ensures { IsOrNoMemory refusal.OutOfMemory result (allowed (codes "triggers") (option_map (list_of sound_kind) (given (codes "triggers") (view value.now)))) }
+{
+    let found = match given(value, "triggers") {
+        Some(found) => Some(kinds(alloc, found)?),
+        None => None,
+    };
+    allowed(alloc, "triggers", found)
+}
+
+// A list that may be absent, which is as if it were empty.
+fn or_empty<T>(alloc: Global, list: Option<List<T>>) -> List<T>
+    ensures { result ≡ or_empty list }
+{
+    match list {
+        Some(list) => list,
+        None => List::new(alloc),
+    }
+}
+
+fn read_fields(
+    alloc: Global,
+    operation: Operation,
+    value: &Value,
+) -> Result<Request, JsonRefusal>
+    ensures { IsOrNoMemory refusal.OutOfMemory result (request_of operation (view value.now)) }
+{
+    let consumer = consumer(alloc, value)?;
+    let stamp = stamp(alloc, value)?;
+    let number = sequence_number(alloc, value)?;
+    let subscriber = subscriber(alloc, operation, value)?;
+    let charging_id = charging_id(alloc, operation, value)?;
+    let again = again(alloc, value)?;
+    let notify = notify(alloc, value)?;
+    let usage = usage(alloc, stamp, value)?;
+    let triggers = triggers(alloc, value)?;
+    Ok(Request {
+        operation,
+        consumer,
+        subscriber,
+        charging_id,
+        number,
+        stamp,
+        again: again.unwrap_or(false),
+        notify,
+        usage: or_empty(alloc, usage),
+        triggers: or_empty(alloc, triggers),
+    })
+}
+
+/// A charging data request from a body (TS 32.291, 6.1.6.2.1.1, in this product's profile).
+///
+/// `NotJson` exactly where the body is no JSON object of nesting at most 127; else `Missing` or `Wrong` for the
+/// first field in the profile's order that is absent or wrong: `nfConsumerIdentification`, `invocationTimeStamp`,
+/// `invocationSequenceNumber`, `subscriberIdentifier` and `chargingId` (which only a Create has to have),
+/// `retransmissionIndicator`, `notifyUri`, `multipleUnitUsage`, `triggers`.
+pub fn read_request(
+    alloc: Global,
+    operation: Operation,
+    body: &[u8],
+) -> Result<Request, JsonRefusal>
+    ensures object { (value : Data) → IsBody body.now value
+        → IsOrNoMemory refusal.OutOfMemory result (request_of operation value) }
+    ensures other { ((value : Data) → ¬ (IsBody body.now value))
+        → IsOrNoMemory refusal.OutOfMemory result (Err refusal.NotJson) }
+    ensures sound { IfOk result (λ request. SpellsRequest operation body.now request) }
+    ensures complete { (request : spec.Request) → SpellsRequest operation body.now request
+        → IsOrNoMemory refusal.OutOfMemory result (Ok request) }
+{
+    match read_object(alloc, body) {
+        Ok(value) => read_fields(alloc, operation, &value),
+        Err(e) => Err(e),
+    }
 }
