@@ -4,6 +4,8 @@
 mod body;
 mod container;
 mod fields;
+mod objects;
 mod request;
 mod triggers;
 mod usage;
+mod write_request;

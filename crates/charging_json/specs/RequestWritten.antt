@@ -1,0 +1,69 @@
+-- A charging data request as it is written (TS 32.291, 6.1.6.2.1.1, in this product's profile).
+use Rattle.std.specs.Prelude.{ℕ, ◌+◌, ◌-◌, ◌^◌, min, Bool, true, false, List, [], ◌∷◌, ◌++◌, Option, Some, None, option_map, map, codes}
+use Rattle.serde_json.specs.Data.{Data, boolean, string}
+use Rattle.units.specs.declared.request.Ask.{Ask}
+use Rattle.units.specs.declared.request.Used.{Used}
+use Rattle.units.specs.declared.request.UnitUsage.{UnitUsage}
+use Rattle.units.specs.declared.request.Request.{Request}
+use Rattle.charging_json.specs.Written.{object_of, listed, number_data, time_data}
+
+-- a trigger of a request, of which only the type is kept
+abbrev pub trigger_data : List ℕ → Data
+trigger_data kind = object_of ((codes "triggerCategory", Some (string (codes "IMMEDIATE_REPORT"))) ∷ (codes "triggerType", Some (string kind)) ∷ [])
+
+-- the total of both directions; it ends at the greatest number of 64 bits
+abbrev pub total_of : ℕ → ℕ → ℕ
+total_of up down = min (up + down) (2 ^ 64 - 1)
+
+-- the times of first and last usage
+abbrev pub span_data : Used → Data
+span_data used = object_of ((codes "timeofFirstUsage", Some (time_data used.first)) ∷ (codes "timeofLastUsage", Some (time_data used.last)) ∷ [])
+
+-- a used unit container
+abbrev pub used_data : Used → Data
+used_data used = object_of (
+  (codes "downlinkVolume", Some (number_data used.down)) ∷
+  (codes "localSequenceNumber", Some (number_data used.lsn)) ∷
+  (codes "pDUContainerInformation", Some (span_data used)) ∷
+  (codes "time", Some (number_data used.seconds)) ∷
+  (codes "totalVolume", Some (number_data (total_of used.up used.down))) ∷
+  (codes "triggerTimestamp", Some (time_data used.moment)) ∷
+  (codes "triggers", listed (map trigger_data used.triggers)) ∷
+  (codes "uplinkVolume", Some (number_data used.up)) ∷ [])
+
+-- a requested unit
+abbrev pub ask_data : Ask → Data
+ask_data ask = object_of ((codes "time", option_map number_data ask.seconds) ∷ (codes "totalVolume", option_map number_data ask.volume) ∷ [])
+
+-- a multiple unit usage
+abbrev pub usage_data : UnitUsage → Data
+usage_data usage = object_of (
+  (codes "ratingGroup", Some (number_data usage.group)) ∷
+  (codes "requestedUnit", option_map ask_data usage.ask) ∷
+  (codes "usedUnitContainer", listed (map used_data usage.used)) ∷ [])
+
+-- the consumer, which is an SMF
+abbrev pub consumer_data : List ℕ → Data
+consumer_data name = object_of ((codes "nFName", Some (string name)) ∷ (codes "nodeFunctionality", Some (string (codes "SMF"))) ∷ [])
+
+-- the retransmission indicator is written only where it is set
+abbrev pub again_data : Bool → Option Data
+again_data true = Some (boolean true)
+again_data false = None
+
+-- what a request says of its session and of itself
+abbrev pub invocation_fields : Request → List (List ℕ × Option Data)
+invocation_fields request =
+  (codes "chargingId", option_map number_data request.charging_id) ∷
+  (codes "invocationSequenceNumber", Some (number_data request.number)) ∷
+  (codes "invocationTimeStamp", Some (time_data request.stamp)) ∷ []
+
+-- a charging data request; its operation stands in the path
+abbrev pub request_data : Request → Data
+request_data request = object_of (invocation_fields request ++ (
+  (codes "multipleUnitUsage", listed (map usage_data request.usage)) ∷
+  (codes "nfConsumerIdentification", Some (consumer_data request.consumer)) ∷
+  (codes "notifyUri", option_map string request.notify) ∷
+  (codes "retransmissionIndicator", again_data request.again) ∷
+  (codes "subscriberIdentifier", option_map string request.subscriber) ∷
+  (codes "triggers", listed (map trigger_data request.triggers)) ∷ []))
