@@ -4,3 +4,4 @@ pub mod Usage
 pub mod Request
 pub mod Written
 pub mod RequestWritten
+pub mod Ranges

@@ -1,0 +1,92 @@
+-- What stands under a name in what is written, and lists that read back.
+use Rattle.std.proofs.Common.{◌≡◌, ◌≤◌, ◌<◌, ℕ, suc, zero, Bool, true, false, List, [], ◌∷◌, map, length, nat_le, Option, Some, None, option_map, option_and_then, refl, sym, ◌∙◌, ap, arith, if◌then◌else◌, bytes_eq, ◌⊎◌, inl, inr}
+use Rattle.std.proofs.lemmas.Bool.{cases_Bool, both_ways}
+use Rattle.std.proofs.lemmas.Bool.Decides.{nat_tests}
+use Rattle.std.proofs.lemmas.Slice.Eq.{bytes_eq-Decides}
+use Rattle.std.specs.List.{AllByRecursion}
+use Rattle.serde_json.specs.Data.{Data, array, object, Members, no_members, put}
+use Rattle.serde_json.specs.Find.{get, get_member}
+use Rattle.serde_json.specs.View.{items_of}
+use Rattle.serde_json.proofs.Views.{get_member-put, get_member-put_other}
+use Rattle.charging_json.specs.Fields.{unless_null, given, optional, each, joined, list_of, or_empty}
+use Rattle.charging_json.specs.Usage.{count, short, short_list_of}
+use Rattle.charging_json.specs.Written.{put_if, with_fields, object_of, listed}
+
+abbrev pub or_else : Option Data → Option Data → Option Data
+or_else None later = later
+or_else (Some d) later = Some d
+
+-- the last field of a name
+abbrev pub found : List ℕ → List (List ℕ × Option Data) → Option Data
+found name [] = None
+found name (f ∷ rest) = if bytes_eq name f.0 then or_else (found name rest) f.1 else found name rest
+
+or_none : (o : Option Data) → or_else o None ≡ o
+or_none None = refl
+or_none (Some d) = refl
+
+or_assoc : (a b c : Option Data) → or_else a (or_else b c) ≡ or_else (or_else a b) c
+or_assoc None b c = refl
+or_assoc (Some d) b c = refl
+
+put_same : (name : List ℕ) (o : Option Data) (ms : Members) → get_member name (put_if name o ms) ≡ or_else o (get_member name ms)
+put_same name None ms = refl
+put_same name (Some d) ms = get_member-put name d ms
+
+put_other : (name other : List ℕ) (o : Option Data) (ms : Members) → (name ≡ other → ⊥) → get_member name (put_if other o ms) ≡ get_member name ms
+put_other name other None ms differs = refl
+put_other name other (Some d) ms differs = get_member-put_other name other d ms differs
+
+look_in : (name : List ℕ) (fields : List (List ℕ × Option Data)) (ms : Members) → get_member name (with_fields fields ms) ≡ or_else (found name fields) (get_member name ms)
+look_in name [] ms = refl
+look_in name (f ∷ rest) ms = elim (cases_Bool (bytes_eq name f.0)) [
+    inl here ↦ let same : name ≡ f.0 = (bytes_eq-Decides name f.0).0 here in
+      look_in name rest (put_if f.0 f.1 ms) ∙ ap (or_else (found name rest)) (ap (λ n. get_member name (put_if n f.1 ms)) (sym same) ∙ put_same name f.1 ms)
+      ∙ or_assoc (found name rest) f.1 (get_member name ms) ∙ rw here refl
+  | inr differs ↦ look_in name rest (put_if f.0 f.1 ms) ∙ ap (or_else (found name rest)) (put_other name f.0 f.1 ms (λ e. both_ways (bytes_eq name f.0) differs ((bytes_eq-Decides name f.0).1 e))) ∙ rw differs refl ]
+
+pub look_up : (name : List ℕ) (fields : List (List ℕ × Option Data)) → given name (object_of fields) ≡ unless_null (found name fields)
+look_up name fields = ap unless_null (look_in name fields no_members ∙ or_none (found name fields))
+
+-- ---- lists
+
+-- a list as an optional field has it
+abbrev pub unless_empty : {T : Type 0} → List T → Option (List T)
+unless_empty [] = None
+unless_empty (x ∷ xs) = Some (x ∷ xs)
+
+pub empty_again : {T : Type 0} (xs : List T) → or_empty (unless_empty xs) ≡ xs
+empty_again [] = refl
+empty_again (x ∷ xs) = refl
+
+pub not_null : (values : List Data) → unless_null (listed values) ≡ listed values
+not_null [] = refl
+not_null (v ∷ values) = refl
+
+pub each_back : {T : Type 0} (reads : Data → Option T) (writes : T → Data) (P : T → Type 0) (xs : List T) → ((x : T) → P x → reads (writes x) ≡ Some x) → AllByRecursion P xs → each reads (items_of (map writes xs)) ≡ Some xs
+each_back reads writes P [] back all = refl
+each_back reads writes P (x ∷ xs) back all = rw (back x all.0, each_back reads writes P xs back all.1) refl
+
+pub list_back : {T : Type 0} (reads : Data → Option T) (writes : T → Data) (P : T → Type 0) (xs : List T) → ((x : T) → P x → reads (writes x) ≡ Some x) → AllByRecursion P xs → option_map (list_of reads) (listed (map writes xs)) ≡ option_map Some (unless_empty xs)
+list_back reads writes P [] back all = refl
+list_back reads writes P (x ∷ xs) back all = ap Some (each_back reads writes P (x ∷ xs) back all)
+
+pub optional_is : {T : Type 0} (reads : Data → Option T) (o : Option Data) (t : Option T) → option_map reads o ≡ option_map Some t → optional reads o ≡ Some t
+optional_is reads None None e = refl
+optional_is reads None (Some x) e = cc
+optional_is reads (Some d) None e = cc
+optional_is reads (Some d) (Some x) e = let is : reads d ≡ Some x = cc in rw is refl
+
+count_map : {T : Type 0} (writes : T → Data) (xs : List T) → count (items_of (map writes xs)) ≡ length xs
+count_map writes [] = refl
+count_map writes (x ∷ xs) = let rest = count_map writes xs in omega arith
+
+short_back : {T : Type 0} (reads : Data → Option T) (writes : T → Data) (P : T → Type 0) (xs : List T) → ((x : T) → P x → reads (writes x) ≡ Some x) → AllByRecursion P xs → length xs ≤ 1000 → option_and_then (each reads) (short (items_of (map writes xs))) ≡ Some xs
+short_back reads writes P xs back all few =
+    let size = count_map writes xs in
+    let test : nat_le (count (items_of (map writes xs))) 1000 ≡ true = grind (arith, nat_tests, size, few) in
+    rw test (each_back reads writes P xs back all)
+
+pub short_list_back : {T : Type 0} (reads : Data → Option T) (writes : T → Data) (P : T → Type 0) (xs : List T) → ((x : T) → P x → reads (writes x) ≡ Some x) → AllByRecursion P xs → length xs ≤ 1000 → option_map (short_list_of reads) (listed (map writes xs)) ≡ option_map Some (unless_empty xs)
+short_list_back reads writes P [] back all few = refl
+short_list_back reads writes P (x ∷ xs) back all few = ap Some (short_back reads writes P (x ∷ xs) back all few)
