@@ -1,6 +1,7 @@
 -- What stands under a name in what is written, and lists that read back.
-use Rattle.std.proofs.Common.{◌≡◌, ◌≤◌, ◌<◌, ℕ, suc, zero, Bool, true, false, List, [], ◌∷◌, map, length, nat_le, Option, Some, None, option_map, option_and_then, refl, sym, ◌∙◌, ap, arith, if◌then◌else◌, bytes_eq, ◌⊎◌, inl, inr}
-use Rattle.std.proofs.lemmas.Bool.{cases_Bool, both_ways}
+use Rattle.std.proofs.Common.{◌≡◌, ◌≤◌, ◌<◌, ℕ, suc, zero, Bool, true, false, List, [], ◌∷◌, map, length, nat_le, Option, Some, None, Ok, option_map, option_and_then, refl, sym, ◌∙◌, ap, arith, if◌then◌else◌, bytes_eq, ◌⊎◌, inl, inr}
+use Rattle.std.proofs.lemmas.Bool.{cases_Bool, both_ways, true≢false}
+use Rattle.std.specs.Option.{is_some}
 use Rattle.std.proofs.lemmas.Bool.Decides.{nat_tests}
 use Rattle.std.proofs.lemmas.Slice.Eq.{bytes_eq-Decides}
 use Rattle.std.specs.List.{AllByRecursion}
@@ -8,7 +9,8 @@ use Rattle.serde_json.specs.Data.{Data, array, object, Members, no_members, put}
 use Rattle.serde_json.specs.Find.{get, get_member}
 use Rattle.serde_json.specs.View.{items_of}
 use Rattle.serde_json.proofs.Views.{get_member-put, get_member-put_other}
-use Rattle.charging_json.specs.Fields.{unless_null, given, optional, each, joined, list_of, or_empty}
+use Rattle.charging_json.specs.Fields.{unless_null, given, optional, each, joined, list_of, or_empty, allowed, required_if}
+use Rattle.charging_json.specs.Ranges.{IfGiven}
 use Rattle.charging_json.specs.Usage.{count, short, short_list_of}
 use Rattle.charging_json.specs.Written.{put_if, with_fields, object_of, listed}
 
@@ -90,3 +92,22 @@ short_back reads writes P xs back all few =
 pub short_list_back : {T : Type 0} (reads : Data → Option T) (writes : T → Data) (P : T → Type 0) (xs : List T) → ((x : T) → P x → reads (writes x) ≡ Some x) → AllByRecursion P xs → length xs ≤ 1000 → option_map (short_list_of reads) (listed (map writes xs)) ≡ option_map Some (unless_empty xs)
 short_list_back reads writes P [] back all few = refl
 short_list_back reads writes P (x ∷ xs) back all few = ap Some (short_back reads writes P (x ∷ xs) back all few)
+
+-- ---- optional values
+
+pub given_back : {T : Type 0} (reads : Data → Option T) (writes : T → Data) (P : T → Type 0) (o : Option T) → ((x : T) → P x → reads (writes x) ≡ Some x) → IfGiven P o → option_map reads (option_map writes o) ≡ option_map Some o
+given_back reads writes P None back all = refl
+given_back reads writes P (Some x) back all = ap Some (back x all)
+
+pub present : {T : Type 0} (writes : T → Data) (o : Option T) → ((x : T) → unless_null (Some (writes x)) ≡ Some (writes x)) → unless_null (option_map writes o) ≡ option_map writes o
+present writes None there = refl
+present writes (Some x) there = there x
+
+pub allowed_is : {T : Type 0} (label : List ℕ) (found : Option (Option T)) (o : Option T) → found ≡ option_map Some o → allowed label found ≡ Ok o
+allowed_is label found None e = rw e refl
+allowed_is label found (Some x) e = rw e refl
+
+pub required_if_is : {T : Type 0} (must : Bool) (label : List ℕ) (found : Option (Option T)) (o : Option T) → found ≡ option_map Some o → (must ≡ true → is_some o ≡ true) → required_if must label found ≡ Ok o
+required_if_is must label found (Some x) e there = rw e refl
+required_if_is true label found None e there = absurd (true≢false (sym (there refl)))
+required_if_is false label found None e there = rw e refl

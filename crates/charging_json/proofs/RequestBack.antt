@@ -1,5 +1,5 @@
 -- A request in range reads back from what is written.
-use Rattle.std.proofs.Common.{◌≡◌, ◌≤◌, ◌<◌, ◌+◌, ◌^◌, ◌==◌, min, ℕ, Bool, true, false, ◌&&◌, List, [], ◌∷◌, map, length, nat_le, Option, Some, None, Ok, option_map, option_and_then, refl, sym, ◌∙◌, ap, arith, codes, if◌then◌else◌}
+use Rattle.std.proofs.Common.{◌≡◌, ◌≤◌, ◌<◌, ◌+◌, ◌^◌, ◌==◌, min, ℕ, Bool, true, false, not, ◌||◌, ◌&&◌, List, [], ◌∷◌, map, length, nat_le, Option, Some, None, Ok, option_map, option_and_then, refl, sym, ◌∙◌, ap, arith, codes, if◌then◌else◌}
 use Rattle.std.proofs.lemmas.Bool.Decides.{nat_tests}
 use Rattle.std.specs.List.{AllByRecursion}
 use Rattle.serde_json.specs.Data.{Data, string, boolean}
@@ -9,13 +9,19 @@ use Rattle.units.specs.declared.request.Ask.{Ask}
 use Rattle.units.specs.declared.request.Used.{Used}
 use Rattle.units.specs.declared.request.UnitUsage.{UnitUsage}
 use Rattle.units.specs.declared.request.Request.{Request}
-use Rattle.charging_json.specs.Fields.{unless_null, given, is_object, number_to, number_32, volume, time, name, text_that, that_passes, within, optional, needed, list_of, or_empty}
+use Rattle.units.specs.declared.request.Operation.{Operation}
+use Rattle.units.specs.declared.refusal.JsonRefusal.{JsonRefusal}
+use Rattle.charging_json.specs.Fields.{unless_null, given, is_object, number_to, number_32, volume, time, name, text_that, that_passes, within, optional, needed, list_of, or_empty, allowed, required_if}
 use Rattle.charging_json.specs.Triggers.{is_kind, limits_of, kind_of, sound_kind, with_limits}
 use Rattle.charging_json.specs.Usage.{directions, volumes_of, usage_times, times_of, counts_of, with_counts, used_of, with_used, ask_of, with_ask, containers_of, entry_of, with_usage, short_list_of}
+use Rattle.charging_json.specs.Request.{consumer_of, charging_id_place, given_within, either_place, is_address, is_create, is_again, with_request, request_of}
+use Rattle.serde_json.specs.Find.{as_bool}
+use Rattle.std.specs.Option.{is_some}
+use Rattle.std.proofs.lemmas.Bool.{and_parts, true≢false}
 use Rattle.charging_json.specs.Written.{number_data, time_data, object_of, listed}
-use Rattle.charging_json.specs.RequestWritten.{trigger_data, trigger_fields, total_of, span_data, span_fields, used_data, used_fields, ask_data, ask_fields, usage_data, usage_fields}
-use Rattle.charging_json.specs.Ranges.{IsKind, IsVolume, Is32, IfGiven, FitsContainer, FitsAsk, FitsUsage}
-use Rattle.charging_json.proofs.LookUp.{look_up, not_null, unless_empty, empty_again, list_back, short_list_back, optional_is}
+use Rattle.charging_json.specs.RequestWritten.{trigger_data, trigger_fields, total_of, span_data, span_fields, used_data, used_fields, ask_data, ask_fields, usage_data, usage_fields, consumer_data, again_data, request_data, request_fields}
+use Rattle.charging_json.specs.Ranges.{IsKind, IsName, IsAddress, IsVolume, Is32, IfGiven, FitsContainer, FitsAsk, FitsUsage, FitsRequest}
+use Rattle.charging_json.proofs.LookUp.{look_up, not_null, unless_empty, empty_again, list_back, short_list_back, optional_is, given_back, present, allowed_is, required_if_is}
 
 -- each moment's text reads as it
 abbrev pub TimesRead : Type 0
@@ -85,3 +91,97 @@ used_back times group stamp used fits =
         (ap (option_map (list_of sound_kind)) (kinds_given used) ∙ list_back sound_kind trigger_data IsKind used.triggers trigger_back fits.kinds) in
     used_from group stamp used.lsn used.seconds used.up used.down used.moment used.first used.last value used.triggers counts span kinds
     ∙ ap (λ g. Some (record used { group = g })) (sym fits.of_group)
+
+-- ---- entries
+
+ask_from : (value : Data) (octets seconds : Option ℕ) → is_object value ≡ true → optional volume (given (codes "totalVolume") value) ≡ Some octets → optional number_32 (given (codes "time") value) ≡ Some seconds → ask_of value ≡ Some (with_ask octets seconds)
+ask_from value octets seconds o e1 e2 = rw (o, e1, e2) refl
+
+pub ask_back : (ask : Ask) → FitsAsk ask → ask_of (ask_data ask) ≡ Some ask
+ask_back ask fits =
+    let value = ask_data ask in
+    ask_from value ask.volume ask.seconds refl
+    (optional_is volume (given (codes "totalVolume") value) ask.volume
+      (ap (option_map volume) (look_up (codes "totalVolume") (ask_fields ask) ∙ present number_data ask.volume (λ n. refl)) ∙ given_back volume number_data IsVolume ask.volume (number_back (2 ^ 60)) fits.octets))
+    (optional_is number_32 (given (codes "time") value) ask.seconds
+      (ap (option_map number_32) (look_up (codes "time") (ask_fields ask) ∙ present number_data ask.seconds (λ n. refl)) ∙ given_back number_32 number_data Is32 ask.seconds (number_back 4294967295) fits.time))
+
+entry_from : (stamp : ℕ) (value : Data) (group : ℕ) (ask : Option Ask) (used : List Used)
+    → given (codes "ratingGroup") value ≡ Some (number_data group) → group ≤ 4294967295
+    → optional ask_of (given (codes "requestedUnit") value) ≡ Some ask → containers_of stamp group value ≡ Some (unless_empty used)
+    → entry_of stamp value ≡ Some (record { group = group; ask = ask; used = used })
+entry_from stamp value group ask used g l e1 e2 =
+    let test : nat_le group 4294967295 ≡ true = grind (arith, nat_tests, l) in
+    rw (g, test, e1, e2, empty_again used) refl
+
+pub usage_back : TimesRead → (stamp : ℕ) (usage : UnitUsage) → FitsUsage usage → entry_of stamp (usage_data usage) ≡ Some usage
+usage_back times stamp usage fits =
+    let value = usage_data usage in
+    entry_from stamp value usage.group usage.ask usage.used
+    (look_up (codes "ratingGroup") (usage_fields usage)) fits.number
+    (optional_is ask_of (given (codes "requestedUnit") value) usage.ask
+      (ap (option_map ask_of) (look_up (codes "requestedUnit") (usage_fields usage) ∙ present ask_data usage.ask (λ ask. refl)) ∙ given_back ask_of ask_data FitsAsk usage.ask ask_back fits.asked))
+    (optional_is (short_list_of (used_of usage.group stamp)) (given (codes "usedUnitContainer") value) (unless_empty usage.used)
+      (ap (option_map (short_list_of (used_of usage.group stamp))) (look_up (codes "usedUnitContainer") (usage_fields usage) ∙ not_null (map used_data usage.used))
+       ∙ short_list_back (used_of usage.group stamp) used_data (FitsContainer usage.group) usage.used (used_back times usage.group stamp) fits.containers fits.few))
+
+-- ---- requests
+
+request_from : (operation : Operation) (value : Data) (consumer : List ℕ) (stamp number : ℕ) (subscriber : Option (List ℕ)) (charging_id : Option ℕ) (again : Option Bool) (notify : Option (List ℕ)) (usage : Option (List UnitUsage)) (triggers : Option (List (List ℕ)))
+    → option_map consumer_of (given (codes "nfConsumerIdentification") value) ≡ Some (Some consumer)
+    → option_map time (given (codes "invocationTimeStamp") value) ≡ Some (Some stamp)
+    → option_map number_32 (given (codes "invocationSequenceNumber") value) ≡ Some (Some number)
+    → required_if (is_create operation) (codes "subscriberIdentifier") (option_map name (given (codes "subscriberIdentifier") value)) ≡ Ok subscriber
+    → required_if (is_create operation) (codes "chargingId") (option_map number_32 (charging_id_place value)) ≡ Ok charging_id
+    → allowed (codes "retransmissionIndicator") (option_map as_bool (given (codes "retransmissionIndicator") value)) ≡ Ok again
+    → allowed (codes "notifyUri") (option_map (text_that is_address) (given (codes "notifyUri") value)) ≡ Ok notify
+    → allowed (codes "multipleUnitUsage") (option_map (short_list_of (entry_of stamp)) (given (codes "multipleUnitUsage") value)) ≡ Ok usage
+    → allowed (codes "triggers") (option_map (list_of sound_kind) (given (codes "triggers") value)) ≡ Ok triggers
+    → request_of operation value ≡ Ok (with_request operation consumer stamp number subscriber charging_id again notify usage triggers)
+request_from operation value consumer stamp number subscriber charging_id again notify usage triggers e1 e2 e3 e4 e5 e6 e7 e8 e9 = rw (e1, e2, e3, e4, e5, e6, e7, e8, e9) refl
+
+needs : (must a b : Bool) → (not must || (a && b)) ≡ true → (must ≡ true → a ≡ true) × (must ≡ true → b ≡ true)
+needs true a b h = let both = and_parts a b h in (λ e. both.0, λ e. both.1)
+needs false a b h = (λ e. absurd (true≢false (sym e)), λ e. absurd (true≢false (sym e)))
+
+consumer_back : (label : List ℕ) → spells_name label ≡ true → consumer_of (consumer_data label) ≡ Some label
+consumer_back label h = text_back spells_name label h
+
+place_is : (a : Option Data) (b : Option Data) → b ≡ None → either_place a b ≡ a
+place_is None b e = e
+place_is (Some d) b e = refl
+
+again_given : (again : Bool) → allowed (codes "retransmissionIndicator") (option_map as_bool (unless_null (again_data again))) ≡ Ok (if again then Some true else None)
+again_given true = refl
+again_given false = refl
+
+again_is : (again : Bool) → is_again (if again then Some true else None) ≡ again
+again_is true = refl
+again_is false = refl
+
+pub request_back : TimesRead → (request : Request) → FitsRequest request → request_of request.operation (request_data request) ≡ Ok request
+request_back times request fits =
+    let value = request_data request in
+    let fields = request_fields request in
+    let must = needs (is_create request.operation) (is_some request.subscriber) (is_some request.charging_id) fits.complete in
+    let whole = request_from request.operation value request.consumer request.stamp request.number request.subscriber request.charging_id (if request.again then Some true else None) request.notify (unless_empty request.usage) (unless_empty request.triggers)
+      (ap (option_map consumer_of) (look_up (codes "nfConsumerIdentification") fields) ∙ ap Some (consumer_back request.consumer fits.name))
+      (ap (option_map time) (look_up (codes "invocationTimeStamp") fields) ∙ ap Some (times request.stamp fits.stamped))
+      (ap (option_map number_32) (look_up (codes "invocationSequenceNumber") fields) ∙ ap Some (number_back 4294967295 request.number fits.numbered))
+      (required_if_is (is_create request.operation) (codes "subscriberIdentifier") (option_map name (given (codes "subscriberIdentifier") value)) request.subscriber
+        (ap (option_map name) (look_up (codes "subscriberIdentifier") fields ∙ present string request.subscriber (λ t. refl)) ∙ given_back name string IsName request.subscriber (text_back spells_name) fits.subscribed) must.0)
+      (required_if_is (is_create request.operation) (codes "chargingId") (option_map number_32 (charging_id_place value)) request.charging_id
+        (ap (option_map number_32) (place_is (given (codes "chargingId") value) (given_within (codes "chargingId") (given (codes "pDUSessionChargingInformation") value)) (ap (given_within (codes "chargingId")) (look_up (codes "pDUSessionChargingInformation") fields))
+          ∙ look_up (codes "chargingId") fields ∙ present number_data request.charging_id (λ n. refl)) ∙ given_back number_32 number_data Is32 request.charging_id (number_back 4294967295) fits.charged) must.1)
+      (ap (λ o. allowed (codes "retransmissionIndicator") (option_map as_bool o)) (look_up (codes "retransmissionIndicator") fields) ∙ again_given request.again)
+      (allowed_is (codes "notifyUri") (option_map (text_that is_address) (given (codes "notifyUri") value)) request.notify
+        (ap (option_map (text_that is_address)) (look_up (codes "notifyUri") fields ∙ present string request.notify (λ t. refl)) ∙ given_back (text_that is_address) string IsAddress request.notify (text_back is_address) fits.notified))
+      (allowed_is (codes "multipleUnitUsage") (option_map (short_list_of (entry_of request.stamp)) (given (codes "multipleUnitUsage") value)) (unless_empty request.usage)
+        (ap (option_map (short_list_of (entry_of request.stamp))) (look_up (codes "multipleUnitUsage") fields ∙ not_null (map usage_data request.usage))
+         ∙ short_list_back (entry_of request.stamp) usage_data FitsUsage request.usage (usage_back times request.stamp) fits.entries fits.few))
+      (allowed_is (codes "triggers") (option_map (list_of sound_kind) (given (codes "triggers") value)) (unless_empty request.triggers)
+        (ap (option_map (list_of sound_kind)) (look_up (codes "triggers") fields ∙ not_null (map trigger_data request.triggers)) ∙ list_back sound_kind trigger_data IsKind request.triggers trigger_back fits.kinds)) in
+    whole
+    ∙ ap (λ again. Ok (record request { again = again; usage = or_empty (unless_empty request.usage); triggers = or_empty (unless_empty request.triggers) })) (again_is request.again)
+    ∙ ap (λ usage. Ok (record request { usage = usage; triggers = or_empty (unless_empty request.triggers) })) (empty_again request.usage)
+    ∙ ap (λ triggers. Ok (record request { triggers = triggers })) (empty_again request.triggers)
