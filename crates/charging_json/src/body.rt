@@ -1,12 +1,14 @@
-ghost use Rattle.std.specs.Prelude.{◌≡◌, ◌⊎◌, IfOk, IfErr, Ok, Err};
-ghost use Rattle.serde_json.specs.Data.{Data};
+ghost use Rattle.std.specs.Prelude.{◌≡◌, ◌⊎◌, ◌≤◌, false, Some, IsUtf8, IfOk, IfErr, Ok, Err};
+ghost use Rattle.serde_json.specs.Data.{Data, depth};
+ghost use Rattle.serde_json.specs.Read.{read, max_depth};
+ghost use Rattle.serde_json.specs.Written.{compact_text, has_float};
 ghost use Rattle.serde_json.specs.View.{view};
 ghost use Rattle.units.specs.declared.refusal.JsonRefusal.TheVariants as refusal;
 ghost use Rattle.charging_json.specs.Request.{IsBody};
 
 use serde_json::Value;
 use std::alloc::Global;
-use units::JsonRefusal;
+use units::{JsonRefusal, List, OutOfMemory};
 
 /// A body as a JSON object: `NotJson` exactly where it is none.
 pub fn read_object(alloc: Global, body: &[u8]) -> Result<Value, JsonRefusal>
@@ -26,4 +28,14 @@ pub fn read_object(alloc: Global, body: &[u8]) -> Result<Value, JsonRefusal>
             Err(JsonRefusal::NotJson)
         },
     }
+}
+
+/// A value as a body: compact, the keys ascending.
+pub fn write_body(alloc: Global, value: &Value) -> Result<List<u8>, OutOfMemory>
+    ensures text { IfOk result (λ b. has_float (view value.now) ≡ false → b ≡ compact_text (view value.now)) }
+    ensures utf8 { IfOk result (λ b. IsUtf8 b) }
+    ensures reads { IfOk result (λ b. depth (view value.now) ≤ max_depth → read b ≡ Some (view value.now)) }
+{
+    let bytes = value.to_vec(alloc)?;
+    Ok(List::from_vec(bytes))
 }

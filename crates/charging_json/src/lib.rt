@@ -5,7 +5,10 @@ mod body;
 mod container;
 mod fields;
 mod objects;
-mod request;
+mod request_reader;
+mod request_writer;
 mod triggers;
 mod usage;
-mod write_request;
+
+pub use request_reader::read_request;
+pub use request_writer::write_request;

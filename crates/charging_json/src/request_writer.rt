@@ -1,10 +1,14 @@
 ghost use Rattle.std.specs.Prelude.{◌≡◌, ◌+◌, ◌^◌, min, IfOk, Ok, Some, option_map, map};
 ghost use Rattle.serde_json.specs.View.{view, members_view};
 ghost use Rattle.serde_json.specs.Written.{compact_text};
+ghost use Rattle.charging_json.specs.Ranges.{FitsRequest};
+ghost use Rattle.charging_json.specs.Request.{SpellsRequest};
 ghost use Rattle.charging_json.specs.Written.{listed, with_fields};
 ghost use Rattle.charging_json.specs.RequestWritten.{trigger_data, total_of, span_data, used_data, ask_data, usage_data, consumer_data, again_data, invocation_fields, request_data};
 
+use crate::body::write_body;
 use crate::objects::{list_value, put_given, put_number, put_number_32, put_text, put_time, put_word};
+use moments::times_read_back;
 use serde_json::{Map, Value};
 use std::alloc::{AllocError, Global};
 use units::{Ask, List, OutOfMemory, Request, Text, UnitUsage, Used};
@@ -151,4 +155,16 @@ fn request_value(alloc: Global, request: &Request) -> Result<Value, AllocError>
     put_text(&mut members, alloc, "subscriberIdentifier", &request.subscriber)?;
     put_given(&mut members, alloc, "triggers", triggers)?;
     Ok(Value::Object(members))
+}
+
+/// A charging data request as a body: compact, the keys ascending, absent fields and empty lists left out.
+///
+/// A request in the ranges of its format reads back, under its operation, as the same request.
+pub fn write_request(alloc: Global, request: &Request) -> Result<List<u8>, OutOfMemory>
+    ensures text { IfOk result (λ b. b ≡ compact_text (request_data request.now)) }
+    ensures reads_back { FitsRequest request.now → IfOk result (λ b. SpellsRequest request.now.operation b request.now) }
+{
+    times_read_back();
+    let value = request_value(alloc, request)?;
+    write_body(alloc, &value)
 }
