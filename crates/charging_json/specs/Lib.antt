@@ -5,3 +5,5 @@ pub mod Request
 pub mod Written
 pub mod RequestWritten
 pub mod Ranges
+pub mod Cause
+pub mod Rules

@@ -2,11 +2,13 @@
 #![tactic(auto)]
 
 mod body;
+mod cause;
 mod container;
 mod fields;
 mod objects;
 mod request_reader;
 mod request_writer;
+mod rules;
 mod triggers;
 mod usage;
 

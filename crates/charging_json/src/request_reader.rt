@@ -86,8 +86,8 @@ fn subscriber(
     required_if(alloc, is_create(operation), "subscriberIdentifier", found)
 }
 
-// Whether it is a Create, in which subscriber and charging id have to be there.
-fn is_create(operation: Operation) -> bool
+/// Whether it is a Create, in which subscriber and charging id have to be there.
+pub fn is_create(operation: Operation) -> bool
     ensures { result ≡ is_create operation }
 {
     match operation {
