@@ -7,3 +7,6 @@ pub mod RequestWritten
 pub mod Ranges
 pub mod Cause
 pub mod Rules
+pub mod Location
+pub mod Information
+pub mod Reply

@@ -28,7 +28,7 @@ fn is_required(operation: Operation, label: &str) -> bool
 /// The cause of a refused body, for whoever answers over HTTP (TS 29.500, 5.2.7.2): `INVALID_MSG_FORMAT` for a body
 /// that is no JSON object, `MANDATORY_IE_MISSING` for a field that is absent, `MANDATORY_IE_INCORRECT` for a wrong field
 /// that the operation requires, `OPTIONAL_IE_INCORRECT` for another; `NO_MEMORY` (this product's own) where memory was wanting.
-pub fn cause(operation: Operation, refusal: &JsonRefusal) -> &'static str
+pub fn cause_text(operation: Operation, refusal: &JsonRefusal) -> &'static str
     ensures { result.now ≡ cause_of operation refusal.now }
 {
     match refusal {

@@ -1,15 +1,15 @@
-ghost use Rattle.std.specs.Prelude.{◌≡◌, ◌⊎◌, ◌^◌, ◌≤◌, List, ℕ, IfOk, IfSome, Some, Ok, Err, option_map, option_and_then};
+ghost use Rattle.std.specs.Prelude.{codes, ◌≡◌, ◌⊎◌, IfOk, IfSome, Some, Ok, Err, option_map, option_and_then};
 ghost use Rattle.serde_json.specs.View.{view};
 ghost use Rattle.serde_json.specs.Find.{as_str};
 ghost use Rattle.units.specs.Answers.{IsOrNoMemory};
 ghost use Rattle.units.specs.declared.refusal.JsonRefusal.TheVariants as refusal;
-ghost use Rattle.charging_json.specs.Fields.{given, is_object, number_to, number_32, volume, time, name, optional, needed, required, allowed, required_if};
+ghost use Rattle.charging_json.specs.Fields.{given, is_object, number_to, number_32, volume, time, name, optional, needed, required, allowed, required_if, or_empty};
 
 use moments::read_time;
 use rows::is_name;
 use serde_json::Value;
 use std::alloc::{AllocError, Global};
-use units::{JsonRefusal, Moment, Text};
+use units::{JsonRefusal, List, Moment, Text};
 
 /// The field of an object, where it is present and not `null`.
 pub fn given<'v>(value: &'v Value, label: &str) -> Option<&'v Value>
@@ -190,5 +190,37 @@ pub fn required_if<T: Drop>(
         } else {
             Ok(None)
         },
+    }
+}
+
+/// The invocation time stamp.
+pub fn stamp(alloc: Global, value: &Value) -> Result<Moment, JsonRefusal>
+    ensures { IsOrNoMemory refusal.OutOfMemory result (required (codes "invocationTimeStamp") (option_map time (given (codes "invocationTimeStamp") (view value.now)))) }
+{
+    let found = match given(value, "invocationTimeStamp") {
+        Some(found) => Some(time(found)),
+        None => None,
+    };
+    required(alloc, "invocationTimeStamp", found)
+}
+
+/// The invocation sequence number.
+pub fn sequence_number(alloc: Global, value: &Value) -> Result<u32, JsonRefusal>
+    ensures { IsOrNoMemory refusal.OutOfMemory result (required (codes "invocationSequenceNumber") (option_map number_32 (given (codes "invocationSequenceNumber") (view value.now)))) }
+{
+    let found = match given(value, "invocationSequenceNumber") {
+        Some(found) => Some(number_32(found)),
+        None => None,
+    };
+    required(alloc, "invocationSequenceNumber", found)
+}
+
+/// A list that may be absent, which is as if it were empty.
+pub fn or_empty<T>(alloc: Global, list: Option<List<T>>) -> List<T>
+    ensures { result ≡ or_empty list }
+{
+    match list {
+        Some(list) => list,
+        None => List::new(alloc),
     }
 }

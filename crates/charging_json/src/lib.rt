@@ -5,12 +5,17 @@ mod body;
 mod cause;
 mod container;
 mod fields;
+mod information;
+mod location;
 mod objects;
+mod reply_reader;
 mod request_reader;
 mod request_writer;
 mod rules;
 mod triggers;
 mod usage;
 
+pub use cause::cause_text;
+pub use reply_reader::read_reply;
 pub use request_reader::read_request;
 pub use request_writer::write_request;

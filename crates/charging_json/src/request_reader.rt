@@ -12,7 +12,9 @@ ghost use Rattle.charging_json.specs.Usage.{entry_of, short_list_of};
 ghost use Rattle.charging_json.specs.Request.{IsBody, consumer_of, consumer_place, charging_id_place, is_visible, is_address, is_create, request_of, SpellsRequest};
 
 use crate::body::read_object;
-use crate::fields::{allowed, given, name, number_32, owned, required, required_if, time};
+use crate::fields::{
+    allowed, given, name, number_32, or_empty, owned, required, required_if, sequence_number, stamp,
+};
 use crate::triggers::kinds;
 use crate::usage::entries;
 use serde_json::Value;
@@ -50,26 +52,6 @@ fn consumer(alloc: Global, value: &Value) -> Result<Text, JsonRefusal>
         None => None,
     };
     required(alloc, "nfConsumerIdentification", found)
-}
-
-fn stamp(alloc: Global, value: &Value) -> Result<Moment, JsonRefusal>
-    ensures { IsOrNoMemory refusal.OutOfMemory result (required (codes "invocationTimeStamp") (option_map time (given (codes "invocationTimeStamp") (view value.now)))) }
-{
-    let found = match given(value, "invocationTimeStamp") {
-        Some(found) => Some(time(found)),
-        None => None,
-    };
-    required(alloc, "invocationTimeStamp", found)
-}
-
-fn sequence_number(alloc: Global, value: &Value) -> Result<u32, JsonRefusal>
-    ensures { IsOrNoMemory refusal.OutOfMemory result (required (codes "invocationSequenceNumber") (option_map number_32 (given (codes "invocationSequenceNumber") (view value.now)))) }
-{
-    let found = match given(value, "invocationSequenceNumber") {
-        Some(found) => Some(number_32(found)),
-        None => None,
-    };
-    required(alloc, "invocationSequenceNumber", found)
 }
 
 fn subscriber(
@@ -192,16 +174,6 @@ fn triggers(alloc: Global, value: &Value) -> Result<Option<List<Text>>, JsonRefu
         None => None,
     };
     allowed(alloc, "triggers", found)
-}
-
-// A list that may be absent, which is as if it were empty.
-fn or_empty<T>(alloc: Global, list: Option<List<T>>) -> List<T>
-    ensures { result ≡ or_empty list }
-{
-    match list {
-        Some(list) => list,
-        None => List::new(alloc),
-    }
 }
 
 fn read_fields(

@@ -1,0 +1,103 @@
+-- The reply to a charging data request (TS 32.291, 6.1.6.2.1.6 and 6.1.7; TS 29.571, ProblemDetails; in this product's profile).
+use Rattle.std.specs.Prelude.{◌≡◌, ◌⊎◌, ℕ, ◌==◌, Bool, true, false, List, Option, Some, None, Result, Ok, Err, bytes_eq, if◌then◌else◌, option_map, option_and_then, codes}
+use Rattle.serde_json.specs.Data.{Data}
+use Rattle.serde_json.specs.Find.{as_str}
+use Rattle.units.specs.declared.answer.Answer.{Answer}
+use Rattle.units.specs.declared.answer.Handling.{Handling}
+use Rattle.units.specs.declared.answer.Handling.TheVariants.{Terminate, Continue, RetryAndTerminate}
+use Rattle.units.specs.declared.answer.UnitInfo.{UnitInfo}
+use Rattle.units.specs.declared.trigger.TriggerRule.{TriggerRule}
+use Rattle.units.specs.declared.reply.Problem.{Problem}
+use Rattle.units.specs.declared.reply.Reply.{Reply}
+use Rattle.units.specs.declared.reply.Reply.TheVariants.{Created, Updated, Released, Refused}
+use Rattle.units.specs.declared.refusal.JsonRefusal.{JsonRefusal}
+use Rattle.charging_json.specs.Fields.{given, is_object, number_32, time, optional, list_of, or_empty, required, allowed, after}
+use Rattle.charging_json.specs.Rules.{rules_of}
+use Rattle.charging_json.specs.Information.{info_of}
+use Rattle.charging_json.specs.Location.{reference_of}
+use Rattle.charging_json.specs.Request.{IsBody}
+
+-- the failure handling of a text (TS 32.291, 6.1.6.3.12)
+abbrev pub handling_named : List ℕ → Option Handling
+handling_named text =
+    if bytes_eq text (codes "TERMINATE") then Some Terminate
+    else if bytes_eq text (codes "CONTINUE") then Some Continue
+    else if bytes_eq text (codes "RETRY_AND_TERMINATE") then Some RetryAndTerminate
+    else None
+
+abbrev pub handling : Data → Option Handling
+handling value = option_and_then handling_named (as_str value)
+
+-- an invocation result: an object whose failure handling may be absent
+abbrev pub result_of : Data → Option (Option Handling)
+result_of value = if is_object value then optional handling (given (codes "failureHandling") value) else None
+
+-- whether session failover is supported (TS 32.291, 6.1.6.3.13)
+abbrev pub failover_named : List ℕ → Option Bool
+failover_named text =
+    if bytes_eq text (codes "FAILOVER_SUPPORTED") then Some true
+    else if bytes_eq text (codes "FAILOVER_NOT_SUPPORTED") then Some false
+    else None
+
+abbrev pub failover : Data → Option Bool
+failover value = option_and_then failover_named (as_str value)
+
+-- a value within a field that may be absent
+abbrev pub flat : {T : Type 0} → Option (Option T) → Option T
+flat None = None
+flat (Some o) = o
+
+abbrev pub with_answer : ℕ → ℕ → Option (Option Handling) → Option Bool → Option (List TriggerRule) → Option (List UnitInfo) → Answer
+with_answer stamp number handling failover triggers units = record { number = number; stamp = stamp; failover = failover; handling = flat handling; triggers = or_empty triggers; units = or_empty units }
+
+-- what an object is: an answer, or the first field in this order that is absent or wrong
+abbrev pub answer_of : Data → Result Answer JsonRefusal
+answer_of value =
+    after (required (codes "invocationTimeStamp") (option_map time (given (codes "invocationTimeStamp") value))) (λ stamp.
+    after (required (codes "invocationSequenceNumber") (option_map number_32 (given (codes "invocationSequenceNumber") value))) (λ number.
+    after (allowed (codes "invocationResult") (option_map result_of (given (codes "invocationResult") value))) (λ handling.
+    after (allowed (codes "sessionFailover") (option_map failover (given (codes "sessionFailover") value))) (λ failover.
+    after (allowed (codes "triggers") (option_map rules_of (given (codes "triggers") value))) (λ triggers.
+    after (allowed (codes "multipleUnitInformation") (option_map (list_of info_of) (given (codes "multipleUnitInformation") value))) (λ units.
+    Ok (with_answer stamp number handling failover triggers units)))))))
+
+abbrev pub with_problem : ℕ → List ℕ → Option (List ℕ) → Problem
+with_problem status cause detail = record { status = status; cause = cause; detail = detail }
+
+-- problem details of a response with this status
+abbrev pub problem_of : ℕ → Data → Result Problem JsonRefusal
+problem_of status value =
+    after (required (codes "cause") (option_map as_str (given (codes "cause") value))) (λ cause.
+    after (allowed (codes "detail") (option_map as_str (given (codes "detail") value))) (λ detail.
+    Ok (with_problem status cause detail)))
+
+-- the reference that a response gives
+abbrev pub reference_given : Option (List ℕ) → Result ℕ JsonRefusal
+reference_given location = required (codes "Location") (option_map reference_of location)
+
+-- a session that was made: its answer, and at last its reference
+abbrev pub created_of : Option (List ℕ) → Data → Result Reply JsonRefusal
+created_of location value = after (answer_of value) (λ answer. after (reference_given location) (λ reference. Ok (Created reference answer)))
+
+abbrev pub updated_of : Data → Result Reply JsonRefusal
+updated_of value = after (answer_of value) (λ answer. Ok (Updated answer))
+
+abbrev pub refused_of : ℕ → Data → Result Reply JsonRefusal
+refused_of status value = after (problem_of status value) (λ problem. Ok (Refused problem))
+
+-- what the object in a response's body is, where its status has one (every status but 204)
+abbrev pub reply_of : ℕ → Option (List ℕ) → Data → Result Reply JsonRefusal
+reply_of status location value =
+    if status == 201 then created_of location value
+    else if status == 200 then updated_of value
+    else refused_of status value
+
+-- the grammar: a response with this status, Location and body is this reply. The body of status 204 is not read
+pub record SpellsObject (status : ℕ) (location : Option (List ℕ)) (body : List ℕ) (reply : Reply) : Type 0 where
+  pub with_body : (status == 204) ≡ false
+  pub value : Data
+  pub object : IsBody body value
+  pub spelled : reply_of status location value ≡ Ok reply
+
+abbrev pub SpellsReply : ℕ → Option (List ℕ) → List ℕ → Reply → Type 0
+SpellsReply status location body reply = ((status ≡ 204) × (reply ≡ Released)) ⊎ SpellsObject status location body reply
