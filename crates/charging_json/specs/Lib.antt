@@ -10,3 +10,4 @@ pub mod Rules
 pub mod Location
 pub mod Information
 pub mod Reply
+pub mod ReplyWritten

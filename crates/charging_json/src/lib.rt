@@ -9,6 +9,7 @@ mod information;
 mod location;
 mod objects;
 mod reply_reader;
+mod reply_writer;
 mod request_reader;
 mod request_writer;
 mod rules;
