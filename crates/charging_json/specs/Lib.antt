@@ -11,3 +11,4 @@ pub mod Location
 pub mod Information
 pub mod Reply
 pub mod ReplyWritten
+pub mod ReplyRanges
