@@ -1,10 +1,16 @@
 ghost use Rattle.std.specs.Prelude.{◌≡◌, IfOk, Ok, Some, option_map, map};
 ghost use Rattle.serde_json.specs.View.{view, members_view};
+ghost use Rattle.serde_json.specs.Written.{compact_text};
+ghost use Rattle.charging_json.specs.Request.{IsBody};
+ghost use Rattle.charging_json.specs.Reply.{SpellsReply};
+ghost use Rattle.charging_json.specs.ReplyRanges.{FitsReply};
 ghost use Rattle.charging_json.specs.Rules.{name_of_type};
 ghost use Rattle.charging_json.specs.Written.{object_of, listed, with_fields};
-ghost use Rattle.charging_json.specs.ReplyWritten.{name_of_code, name_of_action, name_of_handling, name_of_failover, name_of_category, rule_data, octets_of, seconds_of, granted_fields, granted_data, last_units_data, bound_fields, info_data, result_data, failover_data, answer_data, problem_data, reply_text};
+ghost use Rattle.charging_json.specs.ReplyWritten.{name_of_code, name_of_action, name_of_handling, name_of_failover, name_of_category, rule_data, octets_of, seconds_of, granted_fields, granted_data, last_units_data, bound_fields, info_data, result_data, failover_data, answer_data, problem_data, reply_text, status_of, location_of};
 
+use crate::body::write_body;
 use crate::objects::{list_value, put_given, put_number, put_number_32, put_text, put_time, put_word};
+use moments::times_read_back;
 use serde_json::{Map, Value};
 use std::alloc::{AllocError, Global};
 use units::{
@@ -261,4 +267,37 @@ fn problem_value(alloc: Global, problem: &Problem) -> Result<Value, AllocError>
     put_text(&mut members, alloc, "detail", &problem.detail)?;
     put_number_32(&mut members, alloc, "status", Some(u32::from(problem.status)))?;
     Ok(Value::Object(members))
+}
+
+fn write_answer(alloc: Global, answer: &Answer) -> Result<List<u8>, OutOfMemory>
+    ensures text { IfOk result (λ b. b ≡ compact_text (answer_data answer.now)) }
+    ensures body { IfOk result (λ b. IsBody b (answer_data answer.now)) }
+{
+    let value = answer_value(alloc, answer)?;
+    write_body(alloc, &value)
+}
+
+fn write_problem(alloc: Global, problem: &Problem) -> Result<List<u8>, OutOfMemory>
+    ensures text { IfOk result (λ b. b ≡ compact_text (problem_data problem.now)) }
+    ensures body { IfOk result (λ b. IsBody b (problem_data problem.now)) }
+{
+    let value = problem_value(alloc, problem)?;
+    write_body(alloc, &value)
+}
+
+/// The body of a reply: compact, the keys ascending, absent fields and empty lists left out; a session that was
+/// released has an empty one.
+///
+/// A reply in the ranges of its format reads back, with its status and its Location, as the same reply.
+pub fn write_reply(alloc: Global, reply: &Reply) -> Result<List<u8>, OutOfMemory>
+    ensures text { IfOk result (λ b. b ≡ reply_text reply.now) }
+    ensures reads_back { FitsReply reply.now → IfOk result (λ b. SpellsReply (status_of reply.now) (location_of reply.now) b reply.now) }
+{
+    times_read_back();
+    match reply {
+        Reply::Created { answer, .. } => write_answer(alloc, answer),
+        Reply::Updated { answer } => write_answer(alloc, answer),
+        Reply::Released => Ok(List::new(alloc)),
+        Reply::Refused { problem } => write_problem(alloc, problem),
+    }
 }
