@@ -70,7 +70,6 @@ segment_of s all = record {
 
 -- ---- the product's own paths
 
-
 abbrev is_path_byte : ℕ → Bool
 is_path_byte b = is_plain b || b == 47
 
@@ -115,8 +114,8 @@ own_path d all =
     let question = ap (λ r. split_once 63 r.0) hash ∙ split_once_none 63 p no_question in
     let path = parse_after_slash SpecialNotFile p (stays_unless_file SpecialNotFile [] _ refl) (segments d all) long in
     let whole : parse_url (Some base) p ≡ Ok (at_path p) =
-        (λ i. parse_by_scheme (split_scheme (question i).0) (Some base) (question i).0 (question i).1 (hash i).1)
-        ∙ by_parts d ∙ ap (λ x. Ok (at_path x)) path in
+    (λ i. parse_by_scheme (split_scheme (question i).0) (Some base) (question i).0 (question i).1 (hash i).1)
+    ∙ by_parts d ∙ ap (λ x. Ok (at_path x)) path in
     ap (λ r. option_map (λ url. url.path) (parsed r)) whole
 
 pub own_location : (n : ℕ) → n < 2 ^ 64 → path_of (collection ++ decimal n) ≡ Some (collection ++ decimal n)
@@ -149,7 +148,7 @@ one_more_digit : (n : ℕ) (text : List ℕ) → 10 ≤ n → IsShortest (n / 10
 one_more_digit n text big h = record {
   digits = digits_more text (n % 10) (omega arith) h.digits;
   some = length_more text _ h.some;
-  first = λ low. ap (λ b. b == 48) (first_more text _ h.some) ∙ h.first (omega arith)
+  first = λ low. ap (λ b. b == 48) (first_more text _ h.some) ∙ h.first (omega arith);
 }
 
 shortest : (n : ℕ) → n < 2 ^ 64 → IsShortest n (decimal n)

@@ -42,10 +42,11 @@ put_other name other (Some d) ms differs = get_member-put_other name other d ms 
 look_in : (name : List ℕ) (fields : List (List ℕ × Option Data)) (ms : Members) → get_member name (with_fields fields ms) ≡ or_else (found name fields) (get_member name ms)
 look_in name [] ms = refl
 look_in name (f ∷ rest) ms = elim (cases_Bool (bytes_eq name f.0)) [
-    inl here ↦ let same : name ≡ f.0 = (bytes_eq-Decides name f.0).0 here in
+  | inl here ↦ let same : name ≡ f.0 = (bytes_eq-Decides name f.0).0 here in
       look_in name rest (put_if f.0 f.1 ms) ∙ ap (or_else (found name rest)) (ap (λ n. get_member name (put_if n f.1 ms)) (sym same) ∙ put_same name f.1 ms)
       ∙ or_assoc (found name rest) f.1 (get_member name ms) ∙ rw here refl
-  | inr differs ↦ look_in name rest (put_if f.0 f.1 ms) ∙ ap (or_else (found name rest)) (put_other name f.0 f.1 ms (λ e. both_ways (bytes_eq name f.0) differs ((bytes_eq-Decides name f.0).1 e))) ∙ rw differs refl ]
+  | inr differs ↦ look_in name rest (put_if f.0 f.1 ms) ∙ ap (or_else (found name rest)) (put_other name f.0 f.1 ms (λ e. both_ways (bytes_eq name f.0) differs ((bytes_eq-Decides name f.0).1 e))) ∙ rw differs refl
+]
 
 pub look_up : (name : List ℕ) (fields : List (List ℕ × Option Data)) → given name (object_of fields) ≡ unless_null (found name fields)
 look_up name fields = ap unless_null (look_in name fields no_members ∙ or_none (found name fields))

@@ -45,19 +45,19 @@ right_false false b h = h
 member_plain : (levels : ℕ) (k : List ℕ) (d : Data) (ms : Members) → IsPlain levels d → ArePlain levels ms → ArePlain levels (member k d ms)
 member_plain levels k d ms here rest = record {
   exact = or_false (has_float d) (members_have_float ms) here.exact rest.exact;
-  deep = let a = here.deep in let b = rest.deep in omega arith
+  deep = let a = here.deep in let b = rest.deep in omega arith;
 }
 
 head_plain : (levels : ℕ) (k : List ℕ) (d : Data) (ms : Members) → ArePlain levels (member k d ms) → IsPlain levels d
 head_plain levels k d ms all = record {
   exact = left_false (has_float d) (members_have_float ms) all.exact;
-  deep = let a = all.deep in omega arith
+  deep = let a = all.deep in omega arith;
 }
 
 tail_plain : (levels : ℕ) (k : List ℕ) (d : Data) (ms : Members) → ArePlain levels (member k d ms) → ArePlain levels ms
 tail_plain levels k d ms all = record {
   exact = right_false (has_float d) (members_have_float ms) all.exact;
-  deep = let a = all.deep in omega arith
+  deep = let a = all.deep in omega arith;
 }
 
 by_order : (o : Ordering) (levels : ℕ) (a b c : Members) → ArePlain levels a → ArePlain levels b → ArePlain levels c → ArePlain levels (match_ordering o a b c)

@@ -24,7 +24,7 @@ created_case (Ok b) reference answer times body fits = inr (record {
   object = body;
   spelled =
       ap (λ told. after told (λ a. after (reference_given (Some (location_text reference))) (λ n. Ok (Created n a)))) (answer_back times answer fits.2)
-      ∙ ap (λ o. after (required (codes "Location") (Some o)) (λ n. Ok (Created n answer))) (location_back reference fits.0 fits.1)
+      ∙ ap (λ o. after (required (codes "Location") (Some o)) (λ n. Ok (Created n answer))) (location_back reference fits.0 fits.1);
 })
 
 updated_case : {E : Type 0} (r : Result (List ℕ) E) (answer : Answer) → TimesRead → IfOk r (λ b. IsBody b (answer_data answer)) → Spelled r (Updated answer)
@@ -33,7 +33,7 @@ updated_case (Ok b) answer times body fits = inr (record {
   with_body = refl;
   value = answer_data answer;
   object = body;
-  spelled = ap (λ told. after told (λ a. Ok (Updated a))) (answer_back times answer fits)
+  spelled = ap (λ told. after told (λ a. Ok (Updated a))) (answer_back times answer fits);
 })
 
 pub created_spells : {E : Type 0} (r : Result (List ℕ) E) (reply : Reply) (reference : ℕ) (answer : Answer) → reply ≡ Created reference answer → TimesRead → IfOk r (λ b. IsBody b (answer_data answer)) → FitsReply reply → IfOk r (λ b. SpellsReply (status_of reply) (location_of reply) b reply)

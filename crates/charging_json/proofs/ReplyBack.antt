@@ -190,13 +190,13 @@ info_back times info fits =
     (look_up (codes "ratingGroup") fields) fits.number (look_up (codes "resultCode") fields)
     (ap granted_of (look_up (codes "grantedUnit") fields) ∙ granted_back times info.grant info.switch fits.granted fits.switched)
     (bounds_from value info.validity info.holding info.volume_threshold info.time_threshold
-      (optional_back number_32 Is32 (given (codes "validityTime") value) info.validity (number_back 4294967295) fits.valid (look_up (codes "validityTime") fields))
-      (optional_back number_32 Is32 (given (codes "quotaHoldingTime") value) info.holding (number_back 4294967295) fits.held (look_up (codes "quotaHoldingTime") fields))
-      (optional_back volume IsVolume (given (codes "volumeQuotaThreshold") value) info.volume_threshold (number_back (2 ^ 60)) fits.octets (look_up (codes "volumeQuotaThreshold") fields))
-      (optional_back number_32 Is32 (given (codes "timeQuotaThreshold") value) info.time_threshold (number_back 4294967295) fits.time (look_up (codes "timeQuotaThreshold") fields)))
+    (optional_back number_32 Is32 (given (codes "validityTime") value) info.validity (number_back 4294967295) fits.valid (look_up (codes "validityTime") fields))
+    (optional_back number_32 Is32 (given (codes "quotaHoldingTime") value) info.holding (number_back 4294967295) fits.held (look_up (codes "quotaHoldingTime") fields))
+    (optional_back volume IsVolume (given (codes "volumeQuotaThreshold") value) info.volume_threshold (number_back (2 ^ 60)) fits.octets (look_up (codes "volumeQuotaThreshold") fields))
+    (optional_back number_32 Is32 (given (codes "timeQuotaThreshold") value) info.time_threshold (number_back 4294967295) fits.time (look_up (codes "timeQuotaThreshold") fields)))
     (ap last_units_of (look_up (codes "finalUnitIndication") fields) ∙ last_units_back info.last_units)
     (optional_is rules_of (given (codes "triggers") value) (unless_empty info.triggers)
-      (ap (option_map rules_of) (look_up (codes "triggers") fields ∙ not_null (map rule_data info.triggers)) ∙ rule_list_back info.triggers fits.rules))
+    (ap (option_map rules_of) (look_up (codes "triggers") fields ∙ not_null (map rule_data info.triggers)) ∙ rule_list_back info.triggers fits.rules))
 
 -- ---- answers
 
@@ -230,16 +230,16 @@ answer_back times answer fits =
     let fields = answer_fields answer in
     let value = answer_data answer in
     answer_from value answer.stamp answer.number (option_map Some answer.handling) answer.failover (unless_empty answer.triggers) (unless_empty answer.units)
-      (ap (option_map time) (look_up (codes "invocationTimeStamp") fields) ∙ ap Some (times answer.stamp fits.stamped))
-      (ap (option_map number_32) (look_up (codes "invocationSequenceNumber") fields) ∙ ap Some (number_back 4294967295 answer.number fits.numbered))
-      (allowed_is (codes "invocationResult") (option_map result_of (given (codes "invocationResult") value)) (option_map Some answer.handling)
-        (ap (option_map result_of) (look_up (codes "invocationResult") fields) ∙ handling_back answer.handling))
-      (allowed_is (codes "sessionFailover") (option_map failover (given (codes "sessionFailover") value)) answer.failover
-        (ap (option_map failover) (look_up (codes "sessionFailover") fields) ∙ failover_back answer.failover))
-      (allowed_is (codes "triggers") (option_map rules_of (given (codes "triggers") value)) (unless_empty answer.triggers)
-        (ap (option_map rules_of) (look_up (codes "triggers") fields ∙ not_null (map rule_data answer.triggers)) ∙ rule_list_back answer.triggers fits.rules))
-      (allowed_is (codes "multipleUnitInformation") (option_map (list_of info_of) (given (codes "multipleUnitInformation") value)) (unless_empty answer.units)
-        (ap (option_map (list_of info_of)) (look_up (codes "multipleUnitInformation") fields ∙ not_null (map info_data answer.units)) ∙ list_back info_of info_data FitsInfo answer.units (info_back times) fits.entries))
+    (ap (option_map time) (look_up (codes "invocationTimeStamp") fields) ∙ ap Some (times answer.stamp fits.stamped))
+    (ap (option_map number_32) (look_up (codes "invocationSequenceNumber") fields) ∙ ap Some (number_back 4294967295 answer.number fits.numbered))
+    (allowed_is (codes "invocationResult") (option_map result_of (given (codes "invocationResult") value)) (option_map Some answer.handling)
+    (ap (option_map result_of) (look_up (codes "invocationResult") fields) ∙ handling_back answer.handling))
+    (allowed_is (codes "sessionFailover") (option_map failover (given (codes "sessionFailover") value)) answer.failover
+    (ap (option_map failover) (look_up (codes "sessionFailover") fields) ∙ failover_back answer.failover))
+    (allowed_is (codes "triggers") (option_map rules_of (given (codes "triggers") value)) (unless_empty answer.triggers)
+    (ap (option_map rules_of) (look_up (codes "triggers") fields ∙ not_null (map rule_data answer.triggers)) ∙ rule_list_back answer.triggers fits.rules))
+    (allowed_is (codes "multipleUnitInformation") (option_map (list_of info_of) (given (codes "multipleUnitInformation") value)) (unless_empty answer.units)
+    (ap (option_map (list_of info_of)) (look_up (codes "multipleUnitInformation") fields ∙ not_null (map info_data answer.units)) ∙ list_back info_of info_data FitsInfo answer.units (info_back times) fits.entries))
     ∙ ap (λ h. Ok (record answer { handling = h; triggers = or_empty (unless_empty answer.triggers); units = or_empty (unless_empty answer.units) })) (flat_back answer.handling)
     ∙ ap (λ rules. Ok (record answer { triggers = rules; units = or_empty (unless_empty answer.units) })) (empty_again answer.triggers)
     ∙ ap (λ infos. Ok (record answer { units = infos })) (empty_again answer.units)
@@ -256,7 +256,7 @@ problem_back problem =
     let fields = problem_fields problem in
     problem_from problem.status (problem_data problem) problem.cause problem.detail (look_up (codes "cause") fields)
     (allowed_is (codes "detail") (option_map as_str (given (codes "detail") (problem_data problem))) problem.detail
-      (ap (option_map as_str) (look_up (codes "detail") fields ∙ present string problem.detail (λ t. refl)) ∙ given_back as_str string (λ t. Unit {0}) problem.detail (λ t h. refl) (any problem.detail)))
+    (ap (option_map as_str) (look_up (codes "detail") fields ∙ present string problem.detail (λ t. refl)) ∙ given_back as_str string (λ t. Unit {0}) problem.detail (λ t h. refl) (any problem.detail)))
   where
     any : (o : Option (List ℕ)) → IfGiven (λ t. Unit {0}) o
     any None = tt

@@ -32,18 +32,42 @@ last_units_plain action = object_plain 0 (last_units_fields action) (text_plain 
 
 info_plain : (info : UnitInfo) → IsPlain 3 (info_data info)
 info_plain info = object_plain 2 (info_fields info) (
-    option_plain 2 last_units_data info.last_units (λ action. deeper 1 2 _ (omega arith) (last_units_plain action)),
-    (deeper_if 1 2 _ (omega arith) (granted_plain info.grant info.switch), (numbers_plain 2 info.holding, (number_plain 2 _, (text_plain 2 _,
-    (numbers_plain 2 info.time_threshold, (listed_plain 1 _ (map_plain 1 rule_data info.triggers rule_plain), (numbers_plain 2 info.validity, (numbers_plain 2 info.volume_threshold, tt)))))))))
+  option_plain 2 last_units_data info.last_units (λ action. deeper 1 2 _ (omega arith) (last_units_plain action)),
+  (
+    deeper_if 1 2 _ (omega arith) (granted_plain info.grant info.switch),
+    (
+      numbers_plain 2 info.holding,
+      (
+        number_plain 2 _,
+        (
+          text_plain 2 _,
+          (numbers_plain 2 info.time_threshold, (listed_plain 1 _ (map_plain 1 rule_data info.triggers rule_plain), (numbers_plain 2 info.validity, (numbers_plain 2 info.volume_threshold, tt)))),
+        ),
+      ),
+    ),
+  ),
+)
 
 result_plain : (handling : Handling) → IsPlain 1 (result_data handling)
 result_plain handling = object_plain 0 (result_fields handling) (text_plain 0 _, tt)
 
 pub answer_plain : (answer : Answer) → IsPlain 5 (answer_data answer)
 answer_plain answer = object_plain 4 (answer_fields answer) (
-    option_plain 4 result_data answer.handling (λ handling. deeper 1 4 _ (omega arith) (result_plain handling)), (number_plain 4 _, (text_plain 4 _,
-    (listed_plain 3 _ (map_plain 3 info_data answer.units info_plain), (option_plain 4 failover_data answer.failover (λ b. text_plain 4 _),
-    (deeper_if 2 4 _ (omega arith) (listed_plain 1 _ (map_plain 1 rule_data answer.triggers rule_plain)), tt))))))
+  option_plain 4 result_data answer.handling (λ handling. deeper 1 4 _ (omega arith) (result_plain handling)),
+  (
+    number_plain 4 _,
+    (
+      text_plain 4 _,
+      (
+        listed_plain 3 _ (map_plain 3 info_data answer.units info_plain),
+        (
+          option_plain 4 failover_data answer.failover (λ b. text_plain 4 _),
+          (deeper_if 2 4 _ (omega arith) (listed_plain 1 _ (map_plain 1 rule_data answer.triggers rule_plain)), tt),
+        ),
+      ),
+    ),
+  ),
+)
 
 pub problem_plain : (problem : Problem) → IsPlain 1 (problem_data problem)
 problem_plain problem = object_plain 0 (problem_fields problem) (text_plain 0 _, (option_plain 0 string problem.detail (text_plain 0), (number_plain 0 _, tt)))

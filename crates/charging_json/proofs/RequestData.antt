@@ -22,15 +22,37 @@ span_plain : (used : Used) → IsPlain 1 (span_data used)
 span_plain used = object_plain 0 (span_fields used) (text_plain 0 _, (text_plain 0 _, tt))
 
 used_plain : (used : Used) → IsPlain 3 (used_data used)
-used_plain used = object_plain 2 (used_fields used) (number_plain 2 _, (number_plain 2 _, (deeper 1 2 _ (omega arith) (span_plain used), (number_plain 2 _, (number_plain 2 _, (text_plain 2 _,
-    (listed_plain 1 _ (map_plain 1 trigger_data used.triggers trigger_plain), (number_plain 2 _, tt))))))))
+used_plain used = object_plain 2 (used_fields used) (
+  number_plain 2 _,
+  (
+    number_plain 2 _,
+    (
+      deeper 1 2 _ (omega arith) (span_plain used),
+      (
+        number_plain 2 _,
+        (
+          number_plain 2 _,
+          (
+            text_plain 2 _,
+            (listed_plain 1 _ (map_plain 1 trigger_data used.triggers trigger_plain), (number_plain 2 _, tt)),
+          ),
+        ),
+      ),
+    ),
+  ),
+)
 
 ask_plain : (ask : Ask) → IsPlain 1 (ask_data ask)
 ask_plain ask = object_plain 0 (ask_fields ask) (option_plain 0 number_data ask.seconds (number_plain 0), (option_plain 0 number_data ask.volume (number_plain 0), tt))
 
 usage_plain : (usage : UnitUsage) → IsPlain 5 (usage_data usage)
-usage_plain usage = object_plain 4 (usage_fields usage) (number_plain 4 _, (option_plain 4 ask_data usage.ask (λ ask. deeper 1 4 _ (omega arith) (ask_plain ask)),
-    (listed_plain 3 _ (map_plain 3 used_data usage.used used_plain), tt)))
+usage_plain usage = object_plain 4 (usage_fields usage) (
+  number_plain 4 _,
+  (
+    option_plain 4 ask_data usage.ask (λ ask. deeper 1 4 _ (omega arith) (ask_plain ask)),
+    (listed_plain 3 _ (map_plain 3 used_data usage.used used_plain), tt),
+  ),
+)
 
 consumer_plain : (name : List ℕ) → IsPlain 1 (consumer_data name)
 consumer_plain name = object_plain 0 (consumer_fields name) (text_plain 0 _, (text_plain 0 _, tt))
@@ -41,7 +63,27 @@ again_plain false = tt
 
 pub request_plain : (request : Request) → IsPlain 7 (request_data request)
 request_plain request = object_plain 6 (request_fields request) (
-    option_plain 6 number_data request.charging_id (number_plain 6), (number_plain 6 _, (text_plain 6 _,
-    (listed_plain 5 _ (map_plain 5 usage_data request.usage usage_plain), (deeper 1 6 _ (omega arith) (consumer_plain request.consumer),
-    (option_plain 6 string request.notify (text_plain 6), (again_plain request.again, (option_plain 6 string request.subscriber (text_plain 6),
-    (deeper_if 2 6 _ (omega arith) (listed_plain 1 _ (map_plain 1 trigger_data request.triggers trigger_plain)), tt)))))))))
+  option_plain 6 number_data request.charging_id (number_plain 6),
+  (
+    number_plain 6 _,
+    (
+      text_plain 6 _,
+      (
+        listed_plain 5 _ (map_plain 5 usage_data request.usage usage_plain),
+        (
+          deeper 1 6 _ (omega arith) (consumer_plain request.consumer),
+          (
+            option_plain 6 string request.notify (text_plain 6),
+            (
+              again_plain request.again,
+              (
+                option_plain 6 string request.subscriber (text_plain 6),
+                (deeper_if 2 6 _ (omega arith) (listed_plain 1 _ (map_plain 1 trigger_data request.triggers trigger_plain)), tt),
+              ),
+            ),
+          ),
+        ),
+      ),
+    ),
+  ),
+)

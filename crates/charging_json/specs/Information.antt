@@ -59,9 +59,9 @@ granted_of None = Some (with_granted None None None)
 granted_of (Some value) =
     if is_object value
     then option_and_then (λ switch. option_and_then (λ seconds. option_map (λ octets. with_granted switch seconds octets)
-        (optional volume (given (codes "totalVolume") value)))
-        (optional number_32 (given (codes "time") value)))
-        (optional time (given (codes "tariffTimeChange") value))
+    (optional volume (given (codes "totalVolume") value)))
+    (optional number_32 (given (codes "time") value)))
+    (optional time (given (codes "tariffTimeChange") value))
     else None
 
 abbrev pub with_bounds : Option ℕ → Option ℕ → Option ℕ → Option ℕ → Bounds
@@ -87,7 +87,7 @@ with_info group code granted bounds last_units triggers = record {
   volume_threshold = bounds.volume_threshold;
   time_threshold = bounds.time_threshold;
   last_units = last_units;
-  triggers = triggers
+  triggers = triggers;
 }
 
 -- an entry for one rating group

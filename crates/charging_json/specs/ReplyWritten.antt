@@ -52,11 +52,11 @@ name_of_category false = codes "DEFERRED_REPORT"
 -- a trigger rule
 abbrev pub rule_fields : TriggerRule → List (List ℕ × Option Data)
 rule_fields rule =
-  (codes "maxNumberOfccc", option_map number_data rule.changes) ∷
-  (codes "timeLimit", option_map number_data rule.seconds) ∷
-  (codes "triggerCategory", Some (string (name_of_category rule.immediate))) ∷
-  (codes "triggerType", Some (string (name_of_type rule.trigger))) ∷
-  (codes "volumeLimit64", option_map number_data rule.volume) ∷ []
+    (codes "maxNumberOfccc", option_map number_data rule.changes) ∷
+    (codes "timeLimit", option_map number_data rule.seconds) ∷
+    (codes "triggerCategory", Some (string (name_of_category rule.immediate))) ∷
+    (codes "triggerType", Some (string (name_of_type rule.trigger))) ∷
+    (codes "volumeLimit64", option_map number_data rule.volume) ∷ []
 
 abbrev pub rule_data : TriggerRule → Data
 rule_data rule = object_of (rule_fields rule)
@@ -75,9 +75,9 @@ seconds_of (Some (Seconds seconds)) = Some seconds
 
 abbrev pub granted_fields : Option Amount → Option ℕ → List (List ℕ × Option Data)
 granted_fields grant switch =
-  (codes "tariffTimeChange", option_map time_data switch) ∷
-  (codes "time", option_map number_data (seconds_of grant)) ∷
-  (codes "totalVolume", option_map number_data (octets_of grant)) ∷ []
+    (codes "tariffTimeChange", option_map time_data switch) ∷
+    (codes "time", option_map number_data (seconds_of grant)) ∷
+    (codes "totalVolume", option_map number_data (octets_of grant)) ∷ []
 
 -- the granted unit, where there is an amount or a tariff time change
 abbrev pub granted_data : Option Amount → Option ℕ → Option Data
@@ -95,19 +95,19 @@ last_units_data action = object_of (last_units_fields action)
 -- what bounds the use of a grant, and the triggers of its rating group
 abbrev pub bound_fields : Option Data → UnitInfo → List (List ℕ × Option Data)
 bound_fields triggers info =
-  (codes "timeQuotaThreshold", option_map number_data info.time_threshold) ∷
-  (codes "triggers", triggers) ∷
-  (codes "validityTime", option_map number_data info.validity) ∷
-  (codes "volumeQuotaThreshold", option_map number_data info.volume_threshold) ∷ []
+    (codes "timeQuotaThreshold", option_map number_data info.time_threshold) ∷
+    (codes "triggers", triggers) ∷
+    (codes "validityTime", option_map number_data info.validity) ∷
+    (codes "volumeQuotaThreshold", option_map number_data info.volume_threshold) ∷ []
 
 -- an entry for one rating group
 abbrev pub info_fields : UnitInfo → List (List ℕ × Option Data)
 info_fields info =
-  (codes "finalUnitIndication", option_map last_units_data info.last_units) ∷
-  (codes "grantedUnit", granted_data info.grant info.switch) ∷
-  (codes "quotaHoldingTime", option_map number_data info.holding) ∷
-  (codes "ratingGroup", Some (number_data info.group)) ∷
-  (codes "resultCode", Some (string (name_of_code info.code))) ∷ bound_fields (listed (map rule_data info.triggers)) info
+    (codes "finalUnitIndication", option_map last_units_data info.last_units) ∷
+    (codes "grantedUnit", granted_data info.grant info.switch) ∷
+    (codes "quotaHoldingTime", option_map number_data info.holding) ∷
+    (codes "ratingGroup", Some (number_data info.group)) ∷
+    (codes "resultCode", Some (string (name_of_code info.code))) ∷ bound_fields (listed (map rule_data info.triggers)) info
 
 abbrev pub info_data : UnitInfo → Data
 info_data info = object_of (info_fields info)
@@ -125,12 +125,12 @@ failover_data supported = string (name_of_failover supported)
 -- an answer
 abbrev pub answer_fields : Answer → List (List ℕ × Option Data)
 answer_fields answer =
-  (codes "invocationResult", option_map result_data answer.handling) ∷
-  (codes "invocationSequenceNumber", Some (number_data answer.number)) ∷
-  (codes "invocationTimeStamp", Some (time_data answer.stamp)) ∷
-  (codes "multipleUnitInformation", listed (map info_data answer.units)) ∷
-  (codes "sessionFailover", option_map failover_data answer.failover) ∷
-  (codes "triggers", listed (map rule_data answer.triggers)) ∷ []
+    (codes "invocationResult", option_map result_data answer.handling) ∷
+    (codes "invocationSequenceNumber", Some (number_data answer.number)) ∷
+    (codes "invocationTimeStamp", Some (time_data answer.stamp)) ∷
+    (codes "multipleUnitInformation", listed (map info_data answer.units)) ∷
+    (codes "sessionFailover", option_map failover_data answer.failover) ∷
+    (codes "triggers", listed (map rule_data answer.triggers)) ∷ []
 
 abbrev pub answer_data : Answer → Data
 answer_data answer = object_of (answer_fields answer)
@@ -138,9 +138,9 @@ answer_data answer = object_of (answer_fields answer)
 -- problem details
 abbrev pub problem_fields : Problem → List (List ℕ × Option Data)
 problem_fields problem =
-  (codes "cause", Some (string problem.cause)) ∷
-  (codes "detail", option_map string problem.detail) ∷
-  (codes "status", Some (number_data problem.status)) ∷ []
+    (codes "cause", Some (string problem.cause)) ∷
+    (codes "detail", option_map string problem.detail) ∷
+    (codes "status", Some (number_data problem.status)) ∷ []
 
 abbrev pub problem_data : Problem → Data
 problem_data problem = object_of (problem_fields problem)

@@ -78,7 +78,7 @@ with_request operation consumer stamp number subscriber charging_id again notify
   again = is_again again;
   notify = notify;
   usage = or_empty usage;
-  triggers = or_empty triggers
+  triggers = or_empty triggers;
 }
 
 -- what an object is for an operation: a request, or the first field in this order that is absent or wrong

@@ -28,14 +28,14 @@ span_data used = object_of (span_fields used)
 -- a used unit container
 abbrev pub used_fields : Used → List (List ℕ × Option Data)
 used_fields used =
-  (codes "downlinkVolume", Some (number_data used.down)) ∷
-  (codes "localSequenceNumber", Some (number_data used.lsn)) ∷
-  (codes "pDUContainerInformation", Some (span_data used)) ∷
-  (codes "time", Some (number_data used.seconds)) ∷
-  (codes "totalVolume", Some (number_data (total_of used.up used.down))) ∷
-  (codes "triggerTimestamp", Some (time_data used.moment)) ∷
-  (codes "triggers", listed (map trigger_data used.triggers)) ∷
-  (codes "uplinkVolume", Some (number_data used.up)) ∷ []
+    (codes "downlinkVolume", Some (number_data used.down)) ∷
+    (codes "localSequenceNumber", Some (number_data used.lsn)) ∷
+    (codes "pDUContainerInformation", Some (span_data used)) ∷
+    (codes "time", Some (number_data used.seconds)) ∷
+    (codes "totalVolume", Some (number_data (total_of used.up used.down))) ∷
+    (codes "triggerTimestamp", Some (time_data used.moment)) ∷
+    (codes "triggers", listed (map trigger_data used.triggers)) ∷
+    (codes "uplinkVolume", Some (number_data used.up)) ∷ []
 
 abbrev pub used_data : Used → Data
 used_data used = object_of (used_fields used)
@@ -50,9 +50,9 @@ ask_data ask = object_of (ask_fields ask)
 -- a multiple unit usage
 abbrev pub usage_fields : UnitUsage → List (List ℕ × Option Data)
 usage_fields usage =
-  (codes "ratingGroup", Some (number_data usage.group)) ∷
-  (codes "requestedUnit", option_map ask_data usage.ask) ∷
-  (codes "usedUnitContainer", listed (map used_data usage.used)) ∷ []
+    (codes "ratingGroup", Some (number_data usage.group)) ∷
+    (codes "requestedUnit", option_map ask_data usage.ask) ∷
+    (codes "usedUnitContainer", listed (map used_data usage.used)) ∷ []
 
 abbrev pub usage_data : UnitUsage → Data
 usage_data usage = object_of (usage_fields usage)
@@ -72,19 +72,19 @@ again_data false = None
 -- what a request says of its session and of itself
 abbrev pub invocation_fields : Request → List (List ℕ × Option Data)
 invocation_fields request =
-  (codes "chargingId", option_map number_data request.charging_id) ∷
-  (codes "invocationSequenceNumber", Some (number_data request.number)) ∷
-  (codes "invocationTimeStamp", Some (time_data request.stamp)) ∷ []
+    (codes "chargingId", option_map number_data request.charging_id) ∷
+    (codes "invocationSequenceNumber", Some (number_data request.number)) ∷
+    (codes "invocationTimeStamp", Some (time_data request.stamp)) ∷ []
 
 -- a charging data request; its operation stands in the path
 abbrev pub request_fields : Request → List (List ℕ × Option Data)
 request_fields request = invocation_fields request ++ (
-  (codes "multipleUnitUsage", listed (map usage_data request.usage)) ∷
-  (codes "nfConsumerIdentification", Some (consumer_data request.consumer)) ∷
-  (codes "notifyUri", option_map string request.notify) ∷
-  (codes "retransmissionIndicator", again_data request.again) ∷
-  (codes "subscriberIdentifier", option_map string request.subscriber) ∷
-  (codes "triggers", listed (map trigger_data request.triggers)) ∷ [])
+    (codes "multipleUnitUsage", listed (map usage_data request.usage)) ∷
+    (codes "nfConsumerIdentification", Some (consumer_data request.consumer)) ∷
+    (codes "notifyUri", option_map string request.notify) ∷
+    (codes "retransmissionIndicator", again_data request.again) ∷
+    (codes "subscriberIdentifier", option_map string request.subscriber) ∷
+    (codes "triggers", listed (map trigger_data request.triggers)) ∷ [])
 
 abbrev pub request_data : Request → Data
 request_data request = object_of (request_fields request)

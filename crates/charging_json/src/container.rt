@@ -60,7 +60,11 @@ fn directions(up: Option<u64>, down: Option<u64>, total: Option<u64>) -> Option<
             None => None,
         },
         (None, Some(down), None) => Some((0, down)),
-        (None, None, Some(total)) => if total <= 1 << 60 { Some((0, total)) } else { None },
+        (None, None, Some(total)) => if total <= 1 << 60 {
+            Some((0, total))
+        } else {
+            None
+        },
         (None, None, None) => Some((0, 0)),
     }
 }

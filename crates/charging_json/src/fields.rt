@@ -148,7 +148,11 @@ pub fn wrong(alloc: Global, label: &str) -> JsonRefusal
 }
 
 /// A field that has to be there: absent, wrong or right.
-pub fn required<T: Drop>(alloc: Global, label: &str, found: Option<Option<T>>) -> Result<T, JsonRefusal>
+pub fn required<T: Drop>(
+    alloc: Global,
+    label: &str,
+    found: Option<Option<T>>,
+) -> Result<T, JsonRefusal>
     ensures { IsOrNoMemory refusal.OutOfMemory result (required label.now found) }
 {
     match found {

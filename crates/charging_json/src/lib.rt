@@ -17,7 +17,11 @@ mod triggers;
 mod usage;
 
 pub use cause::cause_text;
+pub use location::session_location;
 pub use reply_reader::read_reply;
 pub use reply_writer::write_reply;
 pub use request_reader::read_request;
 pub use request_writer::write_request;
+
+#[cfg(test)]
+mod tests;

@@ -1,8 +1,9 @@
 ghost use Rattle.std.specs.Prelude.{◌≡◌, IfOk, Ok, Some, option_map, option_and_then, string_bytes};
-ghost use Rattle.charging_json.specs.Location.{base, path_of, below_collection, reference_in, reference_of};
+ghost use Rattle.charging_json.specs.Location.{base, path_of, below_collection, reference_in, reference_of, location_text};
 
 use rows::number;
 use std::alloc::{AllocError, Global};
+use units::{OutOfMemory, Text};
 use url::{ParseError, Url};
 
 // What a Location is read against.
@@ -56,4 +57,12 @@ pub fn reference(alloc: Global, location: &str) -> Result<Option<u32>, AllocErro
         },
         None => Ok(None),
     }
+}
+
+/// The Location of the charging session with a reference, which `read_reply` reads as that reference (TS 32.291, 6.1.3.3).
+pub fn session_location(alloc: Global, reference: u32) -> Result<Text, OutOfMemory>
+    ensures { IfOk result (λ t. t ≡ location_text reference) }
+{
+    let text = format!(in alloc; "/nchf-convergedcharging/v3/chargingdata/{reference}")?;
+    Ok(Text::from_string(text))
 }

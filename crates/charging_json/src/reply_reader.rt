@@ -190,11 +190,7 @@ fn read_reference(alloc: Global, location: Option<&str>) -> Result<u32, JsonRefu
     required(alloc, "Location", found)
 }
 
-fn read_created(
-    alloc: Global,
-    location: Option<&str>,
-    value: &Value,
-) -> Result<Reply, JsonRefusal>
+fn read_created(alloc: Global, location: Option<&str>, value: &Value) -> Result<Reply, JsonRefusal>
     ensures { IsOrNoMemory refusal.OutOfMemory result (created_of (option_map (λ t. t.now) location.entry) (view value.now)) }
 {
     let answer = read_answer(alloc, value)?;

@@ -9,12 +9,15 @@ ghost use Rattle.charging_json.specs.Written.{object_of, listed, with_fields};
 ghost use Rattle.charging_json.specs.ReplyWritten.{name_of_code, name_of_action, name_of_handling, name_of_failover, name_of_category, rule_data, octets_of, seconds_of, granted_fields, granted_data, last_units_data, bound_fields, info_data, result_data, failover_data, answer_data, problem_data, reply_text, status_of, location_of};
 
 use crate::body::write_body;
-use crate::objects::{list_value, put_given, put_number, put_number_32, put_text, put_time, put_word};
+use crate::objects::{
+    list_value, put_given, put_number, put_number_32, put_text, put_time, put_word,
+};
 use moments::times_read_back;
 use serde_json::{Map, Value};
 use std::alloc::{AllocError, Global};
 use units::{
-    Action, Amount, Answer, Code, Handling, List, Moment, OutOfMemory, Problem, Reply, TriggerRule, TriggerType, UnitInfo,
+    Action, Amount, Answer, Code, Handling, List, Moment, OutOfMemory, Problem, Reply, TriggerRule,
+    TriggerType, UnitInfo,
 };
 
 fn name_of_type(trigger: TriggerType) -> &'static str
@@ -80,13 +83,21 @@ fn name_of_handling(handling: Handling) -> &'static str
 fn name_of_failover(supported: bool) -> &'static str
     ensures { result.now ≡ name_of_failover supported }
 {
-    if supported { "FAILOVER_SUPPORTED" } else { "FAILOVER_NOT_SUPPORTED" }
+    if supported {
+        "FAILOVER_SUPPORTED"
+    } else {
+        "FAILOVER_NOT_SUPPORTED"
+    }
 }
 
 fn name_of_category(immediate: bool) -> &'static str
     ensures { result.now ≡ name_of_category immediate }
 {
-    if immediate { "IMMEDIATE_REPORT" } else { "DEFERRED_REPORT" }
+    if immediate {
+        "IMMEDIATE_REPORT"
+    } else {
+        "DEFERRED_REPORT"
+    }
 }
 
 fn rule_value(alloc: Global, rule: &TriggerRule) -> Result<Value, AllocError>
@@ -95,8 +106,18 @@ fn rule_value(alloc: Global, rule: &TriggerRule) -> Result<Value, AllocError>
     let mut members = Map::new(alloc);
     put_number_32(&mut members, alloc, "maxNumberOfccc", rule.changes)?;
     put_number_32(&mut members, alloc, "timeLimit", rule.seconds)?;
-    put_word(&mut members, alloc, "triggerCategory", name_of_category(rule.immediate))?;
-    put_word(&mut members, alloc, "triggerType", name_of_type(rule.trigger))?;
+    put_word(
+        &mut members,
+        alloc,
+        "triggerCategory",
+        name_of_category(rule.immediate),
+    )?;
+    put_word(
+        &mut members,
+        alloc,
+        "triggerType",
+        name_of_type(rule.trigger),
+    )?;
     put_number(&mut members, alloc, "volumeLimit64", rule.volume)?;
     Ok(Value::Object(members))
 }
@@ -160,16 +181,18 @@ fn granted_value(
     }
 }
 
-fn last_units_value(
-    alloc: Global,
-    last_units: Option<Action>,
-) -> Result<Option<Value>, AllocError>
+fn last_units_value(alloc: Global, last_units: Option<Action>) -> Result<Option<Value>, AllocError>
     ensures { IfOk result (λ o. option_map view o ≡ option_map last_units_data last_units) }
 {
     match last_units {
         Some(action) => {
             let mut members = Map::new(alloc);
-            put_word(&mut members, alloc, "finalUnitAction", name_of_action(action))?;
+            put_word(
+                &mut members,
+                alloc,
+                "finalUnitAction",
+                name_of_action(action),
+            )?;
             Ok(Some(Value::Object(members)))
         }
         None => Ok(None),
@@ -187,7 +210,12 @@ fn put_bounds(
     put_number_32(members, alloc, "timeQuotaThreshold", info.time_threshold)?;
     put_given(members, alloc, "triggers", triggers)?;
     put_number_32(members, alloc, "validityTime", info.validity)?;
-    put_number(members, alloc, "volumeQuotaThreshold", info.volume_threshold)
+    put_number(
+        members,
+        alloc,
+        "volumeQuotaThreshold",
+        info.volume_threshold,
+    )
 }
 
 fn info_value(alloc: Global, info: &UnitInfo) -> Result<Value, AllocError>
@@ -217,16 +245,18 @@ fn info_values(alloc: Global, infos: &[UnitInfo]) -> Result<Option<Value>, Alloc
     Ok(list_value(values))
 }
 
-fn result_value(
-    alloc: Global,
-    handling: Option<Handling>,
-) -> Result<Option<Value>, AllocError>
+fn result_value(alloc: Global, handling: Option<Handling>) -> Result<Option<Value>, AllocError>
     ensures { IfOk result (λ o. option_map view o ≡ option_map result_data handling) }
 {
     match handling {
         Some(handling) => {
             let mut members = Map::new(alloc);
-            put_word(&mut members, alloc, "failureHandling", name_of_handling(handling))?;
+            put_word(
+                &mut members,
+                alloc,
+                "failureHandling",
+                name_of_handling(handling),
+            )?;
             Ok(Some(Value::Object(members)))
         }
         None => Ok(None),
@@ -251,8 +281,18 @@ fn answer_value(alloc: Global, answer: &Answer) -> Result<Value, AllocError>
     let triggers = rule_values(alloc, answer.triggers.as_slice())?;
     let mut members = Map::new(alloc);
     put_given(&mut members, alloc, "invocationResult", handling)?;
-    put_number_32(&mut members, alloc, "invocationSequenceNumber", Some(answer.number))?;
-    put_time(&mut members, alloc, "invocationTimeStamp", Some(answer.stamp))?;
+    put_number_32(
+        &mut members,
+        alloc,
+        "invocationSequenceNumber",
+        Some(answer.number),
+    )?;
+    put_time(
+        &mut members,
+        alloc,
+        "invocationTimeStamp",
+        Some(answer.stamp),
+    )?;
     put_given(&mut members, alloc, "multipleUnitInformation", units)?;
     put_given(&mut members, alloc, "sessionFailover", failover)?;
     put_given(&mut members, alloc, "triggers", triggers)?;
@@ -265,7 +305,12 @@ fn problem_value(alloc: Global, problem: &Problem) -> Result<Value, AllocError>
     let mut members = Map::new(alloc);
     put_word(&mut members, alloc, "cause", problem.cause.as_str())?;
     put_text(&mut members, alloc, "detail", &problem.detail)?;
-    put_number_32(&mut members, alloc, "status", Some(u32::from(problem.status)))?;
+    put_number_32(
+        &mut members,
+        alloc,
+        "status",
+        Some(u32::from(problem.status)),
+    )?;
     Ok(Value::Object(members))
 }
 

@@ -176,11 +176,7 @@ fn triggers(alloc: Global, value: &Value) -> Result<Option<List<Text>>, JsonRefu
     allowed(alloc, "triggers", found)
 }
 
-fn read_fields(
-    alloc: Global,
-    operation: Operation,
-    value: &Value,
-) -> Result<Request, JsonRefusal>
+fn read_fields(alloc: Global, operation: Operation, value: &Value) -> Result<Request, JsonRefusal>
     ensures { IsOrNoMemory refusal.OutOfMemory result (request_of operation (view value.now)) }
 {
     let consumer = consumer(alloc, value)?;

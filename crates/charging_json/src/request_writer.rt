@@ -7,7 +7,9 @@ ghost use Rattle.charging_json.specs.Written.{listed, with_fields};
 ghost use Rattle.charging_json.specs.RequestWritten.{trigger_data, total_of, span_data, used_data, ask_data, usage_data, consumer_data, again_data, invocation_fields, request_data};
 
 use crate::body::write_body;
-use crate::objects::{list_value, put_given, put_number, put_number_32, put_text, put_time, put_word};
+use crate::objects::{
+    list_value, put_given, put_number, put_number_32, put_text, put_time, put_word,
+};
 use moments::times_read_back;
 use serde_json::{Map, Value};
 use std::alloc::{AllocError, Global};
@@ -135,7 +137,12 @@ fn put_invocation(
     ensures { IfOk result (λ _. members_view members.new.entries ≡ with_fields (invocation_fields request.now) (members_view members.old.entries)) }
 {
     put_number_32(members, alloc, "chargingId", request.charging_id)?;
-    put_number_32(members, alloc, "invocationSequenceNumber", Some(request.number))?;
+    put_number_32(
+        members,
+        alloc,
+        "invocationSequenceNumber",
+        Some(request.number),
+    )?;
     put_time(members, alloc, "invocationTimeStamp", Some(request.stamp))
 }
 
@@ -149,10 +156,20 @@ fn request_value(alloc: Global, request: &Request) -> Result<Value, AllocError>
     let mut members = Map::new(alloc);
     put_invocation(&mut members, alloc, request)?;
     put_given(&mut members, alloc, "multipleUnitUsage", usage)?;
-    put_given(&mut members, alloc, "nfConsumerIdentification", Some(consumer))?;
+    put_given(
+        &mut members,
+        alloc,
+        "nfConsumerIdentification",
+        Some(consumer),
+    )?;
     put_text(&mut members, alloc, "notifyUri", &request.notify)?;
     put_given(&mut members, alloc, "retransmissionIndicator", again)?;
-    put_text(&mut members, alloc, "subscriberIdentifier", &request.subscriber)?;
+    put_text(
+        &mut members,
+        alloc,
+        "subscriberIdentifier",
+        &request.subscriber,
+    )?;
     put_given(&mut members, alloc, "triggers", triggers)?;
     Ok(Value::Object(members))
 }

@@ -5,7 +5,7 @@ ghost use Rattle.rows.specs.Name.{is_name_byte};
 ghost use Rattle.charging_json.specs.Fields.{given, optional, list_of};
 ghost use Rattle.charging_json.specs.Triggers.{is_kind, is_immediate, category, kind_of, limits_of, sound_kind};
 
-use crate::fields::{given, owned, optional_number, optional_number_32};
+use crate::fields::{given, optional_number, optional_number_32, owned};
 use serde_json::Value;
 use std::alloc::{AllocError, Global};
 use units::{List, Text};
@@ -83,7 +83,11 @@ pub fn kind(value: &Value) -> Option<&str>
     ensures { option_map (λ t. t.now) result ≡ kind_of (view value.now) }
 {
     let text = given(value, "triggerType")?.as_str()?;
-    if is_kind(text.as_bytes()) { Some(text) } else { None }
+    if is_kind(text.as_bytes()) {
+        Some(text)
+    } else {
+        None
+    }
 }
 
 // The type of a trigger whose other members are right.
