@@ -1,10 +1,9 @@
 -- The Location of a reference names that reference.
-use Rattle.std.proofs.Common.{◌≡◌, ◌≢◌, ℕ, suc, zero, ◌+◌, ◌-◌, ◌*◌, ◌/◌, ◌%◌, ◌<◌, ◌≤◌, ◌^◌, Bool, true, false, not, ◌&&◌, ◌||◌, ◌==◌, nat_le, List, [], ◌∷◌, ◌++◌, length, get_or, take, drop, Some, None, Ok, All, sym, refl, ap, ◌∙◌, arith, append-nil, take_all, codes, decimal}
+use Rattle.std.proofs.Common.{◌≡◌, ◌≢◌, ℕ, ◌+◌, ◌-◌, ◌/◌, ◌%◌, ◌<◌, ◌≤◌, ◌^◌, Bool, true, false, not, ◌&&◌, ◌||◌, ◌==◌, nat_le, List, [], ◌∷◌, ◌++◌, length, get_or, drop, Some, None, Ok, All, sym, refl, ap, ◌∙◌, arith, append-nil, take_all, codes, decimal}
 use Rattle.std.specs.Prelude.{reverse, option_map, option_and_then}
 use Rattle.std.specs.List.{prefix_len, list_all}
 use Rattle.std.specs.Int.{IsInRange}
 use Rattle.std.specs.Char.{is_ascii_alphanumeric, is_ascii_digit}
-use Rattle.std.specs.Str.Parse.{digits_value}
 use Rattle.std.proofs.lemmas.Fmt.{decimal_by_steps, decimal_is_IsNumeral}
 use Rattle.std.proofs.lemmas.Bool.{cond-false, lt-leb, and_parts}
 use Rattle.std.proofs.lemmas.Bool.Decides.{nat_tests}
@@ -23,8 +22,8 @@ use Rattle.url.proofs.InputLemmas.{IsNot, Passes, split_once_none, filter_all, A
 use Rattle.url.proofs.SetLemmas.{kept_from_passes}
 use Rattle.url.proofs.HostRoundTrip.{All-decimal}
 use Rattle.url.proofs.RoundTrip.{parse_after_slash, stays_unless_file}
-use Rattle.rows.specs.Number.{is_numeral, number_of}
-use Rattle.charging_json.specs.Location.{base, parsed, path_of, collection, below_collection, positive, reference_in, reference_of, location_text}
+use Rattle.rows.specs.Number.{is_numeral}
+use Rattle.charging_json.specs.Location.{base, parsed, path_of, collection, below_collection, reference_in, reference_of, location_text}
 
 -- ---- nothing is trimmed or stripped
 

@@ -1,15 +1,15 @@
 -- What stands under a name in what is written, and lists that read back.
-use Rattle.std.proofs.Common.{◌≡◌, ◌≤◌, ◌<◌, ℕ, suc, zero, Bool, true, false, List, [], ◌∷◌, map, length, nat_le, Option, Some, None, Ok, option_map, option_and_then, refl, sym, ◌∙◌, ap, arith, if◌then◌else◌, bytes_eq, ◌⊎◌, inl, inr}
+use Rattle.std.proofs.Common.{◌≡◌, ◌≤◌, ℕ, Bool, true, false, List, [], ◌∷◌, map, length, nat_le, Option, Some, None, Ok, option_map, option_and_then, refl, sym, ◌∙◌, ap, arith, if◌then◌else◌, bytes_eq, inl, inr}
 use Rattle.std.proofs.lemmas.Bool.{cases_Bool, both_ways, true≢false}
 use Rattle.std.specs.Option.{is_some}
 use Rattle.std.proofs.lemmas.Bool.Decides.{nat_tests}
 use Rattle.std.proofs.lemmas.Slice.Eq.{bytes_eq-Decides}
 use Rattle.std.specs.List.{AllByRecursion}
-use Rattle.serde_json.specs.Data.{Data, array, object, Members, no_members, put}
-use Rattle.serde_json.specs.Find.{get, get_member}
+use Rattle.serde_json.specs.Data.{Data, Members, no_members}
+use Rattle.serde_json.specs.Find.{get_member}
 use Rattle.serde_json.specs.View.{items_of}
 use Rattle.serde_json.proofs.Views.{get_member-put, get_member-put_other}
-use Rattle.charging_json.specs.Fields.{unless_null, given, optional, each, joined, list_of, or_empty, allowed, required_if}
+use Rattle.charging_json.specs.Fields.{unless_null, given, optional, each, list_of, or_empty, allowed, required_if}
 use Rattle.charging_json.specs.Ranges.{IfGiven}
 use Rattle.charging_json.specs.Usage.{count, short, short_list_of}
 use Rattle.charging_json.specs.Written.{put_if, with_fields, object_of, listed}

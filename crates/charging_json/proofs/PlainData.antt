@@ -1,8 +1,8 @@
 -- What is written has no float, and nests a few levels deep.
-use Rattle.std.proofs.Common.{◌≡◌, ◌≤◌, ◌<◌, ℕ, suc, zero, max, Bool, true, false, ◌||◌, List, [], ◌∷◌, ◌++◌, map, Option, option_map, Some, None, refl, sym, ◌∙◌, ap, arith, Ordering, Less, Equal, Greater}
+use Rattle.std.proofs.Common.{◌≡◌, ◌≤◌, ℕ, suc, Bool, true, false, ◌||◌, List, [], ◌∷◌, map, Option, option_map, Some, None, refl, arith, Ordering, Less, Equal, Greater}
 use Rattle.std.specs.Ordering.{nat_cmp, match_ordering}
 use Rattle.std.specs.Cmp.Lexicographic.{slice_cmp}
-use Rattle.serde_json.specs.Data.{Data, array, object, Items, Members, no_members, member, put, depth, members_depth, items_depth}
+use Rattle.serde_json.specs.Data.{Data, Members, no_members, member, put, depth, members_depth, items_depth}
 use Rattle.serde_json.specs.View.{items_of}
 use Rattle.serde_json.specs.Written.{has_float, members_have_float, items_have_float}
 use Rattle.charging_json.specs.Written.{put_if, with_fields, object_of, listed}

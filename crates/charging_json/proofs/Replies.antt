@@ -1,13 +1,13 @@
 -- The body of an answer spells its reply.
-use Rattle.std.proofs.Common.{◌≡◌, ◌≤◌, ℕ, List, Result, Ok, Err, IfOk, Option, Some, None, option_map, refl, sym, ◌∙◌, ap, subst, inr, codes}
+use Rattle.std.proofs.Common.{◌≡◌, ℕ, List, Result, Ok, Err, IfOk, Some, refl, sym, ◌∙◌, ap, subst, inr, codes}
 use Rattle.units.specs.declared.answer.Answer.{Answer}
 use Rattle.units.specs.declared.reply.Reply.{Reply}
 use Rattle.units.specs.declared.reply.Reply.TheVariants.{Created, Updated}
 use Rattle.charging_json.specs.Fields.{required, after}
 use Rattle.charging_json.specs.Location.{location_text}
 use Rattle.charging_json.specs.Request.{IsBody}
-use Rattle.charging_json.specs.Reply.{reply_of, reference_given, SpellsReply}
-use Rattle.charging_json.specs.ReplyRanges.{FitsReply, FitsAnswer}
+use Rattle.charging_json.specs.Reply.{reference_given, SpellsReply}
+use Rattle.charging_json.specs.ReplyRanges.{FitsReply}
 use Rattle.charging_json.specs.ReplyWritten.{answer_data, status_of, location_of}
 use Rattle.charging_json.proofs.RequestBack.{TimesRead}
 use Rattle.charging_json.proofs.ReplyBack.{answer_back}

@@ -1,6 +1,6 @@
 -- A reply as it is written has no float, and nests five levels deep.
-use Rattle.std.proofs.Common.{◌≡◌, ◌≤◌, ℕ, Bool, List, map, Option, Some, None, refl, arith, codes, option_map}
-use Rattle.serde_json.specs.Data.{Data, string}
+use Rattle.std.proofs.Common.{ℕ, Option, Some, None, arith, option_map}
+use Rattle.serde_json.specs.Data.{string}
 use Rattle.units.specs.declared.answer.Answer.{Answer}
 use Rattle.units.specs.declared.answer.Amount.{Amount}
 use Rattle.units.specs.declared.answer.Action.{Action}
@@ -8,7 +8,7 @@ use Rattle.units.specs.declared.answer.Handling.{Handling}
 use Rattle.units.specs.declared.answer.UnitInfo.{UnitInfo}
 use Rattle.units.specs.declared.trigger.TriggerRule.{TriggerRule}
 use Rattle.units.specs.declared.reply.Problem.{Problem}
-use Rattle.charging_json.specs.Written.{object_of, number_data, time_data, listed}
+use Rattle.charging_json.specs.Written.{object_of, number_data, time_data}
 use Rattle.charging_json.specs.ReplyWritten.{rule_data, rule_fields, octets_of, seconds_of, granted_fields, granted_data, last_units_data, last_units_fields, info_data, info_fields, result_data, result_fields, failover_data, answer_data, answer_fields, problem_data, problem_fields}
 use Rattle.charging_json.proofs.PlainData.{IsPlain, PlainIf, object_plain, listed_plain, map_plain, option_plain, deeper, deeper_if}
 use Rattle.charging_json.proofs.RequestData.{number_plain, text_plain}

@@ -1,11 +1,11 @@
 -- A request as it is written has no float, and nests seven levels deep.
-use Rattle.std.proofs.Common.{◌≡◌, ◌≤◌, ℕ, Bool, true, false, List, map, Option, Some, None, refl, arith, codes, option_map}
-use Rattle.serde_json.specs.Data.{Data, string}
+use Rattle.std.proofs.Common.{ℕ, Bool, true, false, List, refl, arith}
+use Rattle.serde_json.specs.Data.{string}
 use Rattle.units.specs.declared.request.Ask.{Ask}
 use Rattle.units.specs.declared.request.Used.{Used}
 use Rattle.units.specs.declared.request.UnitUsage.{UnitUsage}
 use Rattle.units.specs.declared.request.Request.{Request}
-use Rattle.charging_json.specs.Written.{number_data, time_data}
+use Rattle.charging_json.specs.Written.{number_data}
 use Rattle.charging_json.specs.RequestWritten.{trigger_data, trigger_fields, span_data, span_fields, used_data, used_fields, ask_data, ask_fields, usage_data, usage_fields, consumer_data, consumer_fields, again_data, request_data, request_fields}
 use Rattle.charging_json.proofs.PlainData.{IsPlain, PlainIf, object_plain, listed_plain, map_plain, option_plain, deeper, deeper_if}
 

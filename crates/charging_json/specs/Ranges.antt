@@ -6,7 +6,6 @@ use Rattle.rows.specs.Name.{spells_name}
 use Rattle.units.specs.declared.request.Ask.{Ask}
 use Rattle.units.specs.declared.request.Used.{Used}
 use Rattle.units.specs.declared.request.UnitUsage.{UnitUsage}
-use Rattle.units.specs.declared.request.Operation.{Operation}
 use Rattle.units.specs.declared.request.Request.{Request}
 use Rattle.charging_json.specs.Triggers.{is_kind}
 use Rattle.charging_json.specs.Request.{is_address, is_create}

@@ -1,5 +1,5 @@
 -- The reply to a charging data request (TS 32.291, 6.1.6.2.1.6 and 6.1.7; TS 29.571, ProblemDetails; in this product's profile).
-use Rattle.std.specs.Prelude.{◌≡◌, ◌⊎◌, ℕ, ◌==◌, Bool, true, false, List, Option, Some, None, Result, Ok, Err, bytes_eq, if◌then◌else◌, option_map, option_and_then, codes}
+use Rattle.std.specs.Prelude.{◌≡◌, ◌⊎◌, ℕ, ◌==◌, Bool, true, false, List, Option, Some, None, Result, Ok, bytes_eq, if◌then◌else◌, option_map, option_and_then, codes}
 use Rattle.serde_json.specs.Data.{Data}
 use Rattle.serde_json.specs.Find.{as_str}
 use Rattle.units.specs.declared.answer.Answer.{Answer}

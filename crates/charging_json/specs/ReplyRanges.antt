@@ -1,5 +1,5 @@
 -- Replies within the ranges of their format: those that are written so that they read back.
-use Rattle.std.specs.Prelude.{◌≡◌, ◌≤◌, ℕ, ◌==◌, Bool, false, List, Option, Some, None, ⊤}
+use Rattle.std.specs.Prelude.{◌≡◌, ◌≤◌, ◌==◌, false, ⊤}
 use Rattle.std.specs.List.{AllByRecursion}
 use Rattle.units.specs.declared.answer.Answer.{Answer}
 use Rattle.units.specs.declared.answer.Amount.{Amount}

@@ -1,6 +1,6 @@
 -- The reply to a charging data request as it is written (TS 32.291, 6.1.6.2.1.6 and 6.1.7, in this product's profile).
-use Rattle.std.specs.Prelude.{ℕ, Bool, true, false, List, [], ◌∷◌, Option, Some, None, option_map, option_and_then, map, codes}
-use Rattle.serde_json.specs.Data.{Data, boolean, string}
+use Rattle.std.specs.Prelude.{ℕ, Bool, true, false, List, [], ◌∷◌, Option, Some, None, option_map, map, codes}
+use Rattle.serde_json.specs.Data.{Data, string}
 use Rattle.serde_json.specs.Written.{compact_text}
 use Rattle.units.specs.declared.answer.Answer.{Answer}
 use Rattle.units.specs.declared.answer.Code.{Code}

@@ -1,5 +1,5 @@
 -- Triggers (TS 32.291, 6.1.6.2.1.7 and 6.1.6.3.6).
-use Rattle.std.specs.Prelude.{ℕ, ◌^◌, ◌&&◌, nat_le, Bool, true, false, List, length, Option, Some, None, if◌then◌else◌, option_map, option_and_then, unwrap_or, codes, bytes_eq}
+use Rattle.std.specs.Prelude.{ℕ, ◌&&◌, nat_le, Bool, true, false, List, length, Option, Some, None, if◌then◌else◌, option_map, option_and_then, unwrap_or, codes, bytes_eq}
 use Rattle.std.specs.List.{list_all}
 use Rattle.serde_json.specs.Data.{Data}
 use Rattle.serde_json.specs.Find.{as_str}

@@ -1,4 +1,4 @@
-use Rattle.std.proofs.Common.{◌≡◌, ◌∙◌, sym, ap, option_and_then, length, refl}
+use Rattle.std.proofs.Common.{◌∙◌, ap, option_and_then, length, refl}
 use Rattle.serde_json.specs.View.{items_view}
 use Rattle.charging_json.specs.Usage.{short}
 use Rattle.charging_json.proofs.Walk.{is_short, is_long}
