@@ -3,9 +3,13 @@
 
 mod account_turns;
 mod draws;
+mod message_turns;
+mod moment_turns;
 mod rating_turns;
 
 use crate::account_turns::charges;
+use crate::message_turns::{parsed_values, printed_values, read_requests, written_replies};
+use crate::moment_turns::{copied_texts, read_texts, written_texts};
 use crate::rating_turns::prices;
 use rows::number;
 use std::alloc::Global;
@@ -30,13 +34,33 @@ fn words(rt: &HostRuntime) -> Result<(String, List<u64>), OutOfMemory> {
     Ok((call, numbers))
 }
 
+// The checksum of that many turns of a call over messages, where there is such a call.
+fn messages(
+    alloc: Global,
+    call: &str,
+    entries: u64,
+    turns: u64,
+) -> Result<Option<u64>, OutOfMemory> {
+    match call {
+        "json-read" => read_requests(alloc, entries, turns).map(Some),
+        "json-parse" => parsed_values(alloc, entries, turns).map(Some),
+        "json-write" => written_replies(alloc, entries, turns).map(Some),
+        "json-print" => printed_values(alloc, entries, turns).map(Some),
+        _ => Ok(None),
+    }
+}
+
 // The checksum of that many turns of a call, where there is such a call.
 fn checksum(alloc: Global, call: &str, numbers: &[u64]) -> Result<Option<u64>, OutOfMemory> {
     match (call, numbers) {
         ("rating", [groups, periods, turns]) => prices(alloc, *groups, *periods, *turns).map(Some),
         ("accounts", [sessions, groups, active, turns]) => {
             charges(alloc, *sessions, *groups, *active, *turns).map(Some)
-        },
+        }
+        ("moments-read", [turns]) => Ok(Some(read_texts(*turns))),
+        ("moments-write", [turns]) => Ok(Some(written_texts(*turns))),
+        ("moments-copy", [turns]) => Ok(Some(copied_texts(*turns))),
+        (call, [entries, turns]) => messages(alloc, call, *entries, *turns),
         _ => Ok(None),
     }
 }
