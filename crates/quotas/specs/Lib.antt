@@ -1,0 +1,5 @@
+pub mod Standing
+pub mod Effect
+pub mod Quota
+pub mod Due
+pub mod Steps

@@ -1,0 +1,83 @@
+-- What came to a group, as a list whose newest entry comes first, and what is read off the whole list (TS 32.290, quota management).
+use Rattle.std.specs.Prelude.{ℕ, Bool, true, false, Option, Some, None, List, [], ◌∷◌, sum_by}
+use Rattle.units.specs.declared.answer.UnitInfo.{UnitInfo}
+use Rattle.units.specs.declared.trigger.TriggerType.{TriggerType}
+use Rattle.quotas.specs.declared.standing.Standing.{Standing}
+use Rattle.quotas.specs.Standing.{set_by}
+use Rattle.quotas.specs.Effect.{returns_quota}
+use Rattle.quotas.specs.Quota.{Quota, new_quota, asked, frozen, answered, continued, used, shut_off, fired}
+
+-- a wish; a request made; its answer (time stamp of the request, entry of the group); a report (octets, seconds, moment);
+-- a trigger; the session going on without a CHF; the session ending
+pub data Step : Type 0 where
+  Asked Frozen Continued Shut : Step
+  Answered : ℕ → Option UnitInfo → Step
+  Used : ℕ → ℕ → ℕ → Step
+  Fired : TriggerType → Step
+
+-- what one of them makes of the group
+abbrev pub quota_step : Step → Quota → Quota
+quota_step Asked q = asked q
+quota_step Frozen q = frozen q
+quota_step Continued q = continued q
+quota_step Shut q = shut_off q
+quota_step (Answered stamp info) q = answered stamp info q
+quota_step (Used octets seconds moment) q = used octets seconds moment q
+quota_step (Fired trigger) q = fired trigger q
+
+-- the group after all of them
+abbrev pub quota_after : List Step → Quota
+quota_after [] = new_quota
+quota_after (step ∷ earlier) = quota_step step (quota_after earlier)
+
+-- what came since the latest freezing
+abbrev pub since_freezing : List Step → List Step
+since_freezing [] = []
+since_freezing (Frozen ∷ earlier) = []
+since_freezing (step ∷ earlier) = step ∷ since_freezing earlier
+
+-- what came since the freezing of the request whose answer, the latest with an entry of the group, set it
+abbrev pub since_set : List Step → List Step
+since_set [] = []
+since_set (Answered stamp (Some info) ∷ earlier) = since_freezing earlier
+since_set (step ∷ earlier) = step ∷ since_set earlier
+
+-- the octets of a report
+abbrev pub octets_in : Step → ℕ
+octets_in (Used octets seconds moment) = octets
+octets_in other = 0
+
+-- the seconds of a report
+abbrev pub seconds_in : Step → ℕ
+seconds_in (Used octets seconds moment) = seconds
+seconds_in other = 0
+
+-- the octets used since that freezing
+abbrev pub octets_used : List Step → ℕ
+octets_used steps = sum_by octets_in (since_set steps)
+
+-- the seconds used since that freezing
+abbrev pub seconds_used : List Step → ℕ
+seconds_used steps = sum_by seconds_in (since_set steps)
+
+-- the moment of the latest report, 0 before the first
+abbrev pub latest_use : List Step → ℕ
+latest_use [] = 0
+latest_use (Used octets seconds moment ∷ earlier) = moment
+latest_use (step ∷ earlier) = latest_use earlier
+
+-- what the latest answer with an entry of the group set
+abbrev pub latest_set : List Step → Option Standing
+latest_set [] = None
+latest_set (Answered stamp (Some info) ∷ earlier) = Some (set_by info.code stamp info)
+latest_set (step ∷ earlier) = latest_set earlier
+
+-- a trigger that gives quota back
+abbrev pub is_return : Step → Bool
+is_return (Fired trigger) = returns_quota trigger
+is_return other = false
+
+-- the session's end
+abbrev pub is_shut : Step → Bool
+is_shut Shut = true
+is_shut other = false

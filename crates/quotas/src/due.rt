@@ -1,0 +1,53 @@
+ghost use Rattle.std.specs.Prelude.{◌≡◌};
+ghost use Rattle.std.specs.Option.{option_copied};
+ghost use Rattle.quotas.specs.Due.{first_by_terms, first_by_container};
+
+use crate::standing::Terms;
+use crate::state::Limits;
+use units::{Container, Moment, TriggerType};
+
+// The first quota trigger that is due by these terms, with this much left.
+pub fn due_by_terms(terms: Terms, left: u64, last_use: Moment, now: Moment) -> Option<TriggerType>
+    ensures { result ≡ first_by_terms terms left last_use now }
+{
+    let is_last = terms.last_units.is_some();
+    if is_last && left == 0 {
+        return Some(TriggerType::Final);
+    }
+    if !is_last && left == 0 {
+        return Some(TriggerType::QuotaExhausted);
+    }
+    if !is_last && terms.threshold > 0 && left <= terms.threshold {
+        return Some(TriggerType::QuotaThreshold);
+    }
+    if terms.validity > 0 && terms.stamp.seconds() + u64::from(terms.validity) <= now.seconds() {
+        return Some(TriggerType::ValidityTime);
+    }
+    let since = terms.stamp.max(last_use);
+    if terms.holding > 0 && since.seconds() + u64::from(terms.holding) <= now.seconds() {
+        return Some(TriggerType::QuotaHoldingTime);
+    }
+    None
+}
+
+// The first trigger that is due by the group's open container, if there is one.
+pub fn due_by_container(
+    open_container: Option<&Container>,
+    unsafe_hour: bool,
+    limits: &Limits,
+) -> Option<TriggerType>
+    ensures { result ≡ first_by_container (option_copied open_container.entry) unsafe_hour limits.now }
+{
+    let container = open_container?;
+    if unsafe_hour {
+        return Some(TriggerType::TariffTimeChange);
+    }
+    let octets = u128::from(container.up) + u128::from(container.down);
+    if limits.volume > 0 && octets >= u128::from(limits.volume) {
+        return Some(TriggerType::VolumeLimit);
+    }
+    if limits.seconds > 0 && container.seconds >= limits.seconds {
+        return Some(TriggerType::TimeLimit);
+    }
+    None
+}

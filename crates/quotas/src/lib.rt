@@ -1,0 +1,10 @@
+//! The quota of one rating group, as the charging trigger function of an SMF keeps it.
+#![tactic(auto)]
+
+mod due;
+mod group;
+mod standing;
+mod state;
+
+pub use group::Group;
+pub use state::{Gate, Limits, State};
