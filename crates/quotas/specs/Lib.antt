@@ -3,3 +3,4 @@ pub mod Effect
 pub mod Quota
 pub mod Due
 pub mod Steps
+pub mod Laws

@@ -3,8 +3,10 @@
 
 mod due;
 mod group;
+mod laws;
 mod standing;
 mod state;
 
 pub use group::Group;
+pub use laws::{by_whole_list, fires_once};
 pub use state::{Gate, Limits, State};
