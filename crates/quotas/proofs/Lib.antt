@@ -1,3 +1,5 @@
 pub mod Sums
-pub mod Latest
+pub mod Stands
+pub mod Asks
+pub mod ByList
 pub mod Quiet

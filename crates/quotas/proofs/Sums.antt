@@ -1,12 +1,11 @@
 -- What a group keeps of its use is a sum over what came to it.
-use Rattle.std.proofs.Common.{◌≡◌, ℕ, ◌+◌, ◌-◌, ◌^◌, ◌||◌, min, Bool, true, false, List, [], ◌∷◌, refl, ap, sym, arith, ◌∙◌}
+use Rattle.std.proofs.Common.{◌≡◌, ℕ, ◌+◌, ◌||◌, List, [], ◌∷◌, refl, ap, arith}
 use Rattle.std.specs.Prelude.{Some, None, sum_by}
-use Rattle.std.specs.List.{list_any}
 use Rattle.std.proofs.lemmas.List.Sums.{sum_by-cons}
 use Rattle.quotas.specs.Quota.{capped}
 use Rattle.quotas.specs.Effect.{returns_quota}
 use Rattle.quotas.specs.Laws.{IsOfTheList}
-use Rattle.quotas.specs.Steps.{Step, quota_after, quota_step, since_set, since_freezing, octets_in, seconds_in, latest_use, is_return, is_shut}
+use Rattle.quotas.specs.Steps.{Step, since_set, since_freezing, octets_in, seconds_in}
 use Rattle.quotas.specs.Steps.Step.{Asked, Frozen, Continued, Shut, Answered, Used, Fired}
 
 -- a step adds its number to the sum

@@ -14,6 +14,14 @@ sets_wish ValidityTime standing = true
 sets_wish ForcedReauthorisation standing = is_granted standing
 sets_wish other standing = false
 
+-- so at granted units (TS 32.255, 5.2.1)
+abbrev pub wants_quota : TriggerType → Bool
+wants_quota QuotaExhausted = true
+wants_quota QuotaThreshold = true
+wants_quota ValidityTime = true
+wants_quota ForcedReauthorisation = true
+wants_quota other = false
+
 -- last units and unused quota are given back in the next request (TS 32.290, quota management)
 abbrev pub returns_quota : TriggerType → Bool
 returns_quota Final = true

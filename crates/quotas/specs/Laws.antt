@@ -1,17 +1,19 @@
 -- What holds of a group for every list of what came to it (TS 32.290; the laws are this product's own).
-use Rattle.std.specs.Prelude.{◌≡◌, ℕ, ◌-◌, ◌^◌, ◌<◌, min, Bool, false, Option, Some, None, List, sum_by}
+use Rattle.std.specs.Prelude.{◌≡◌, ℕ, ◌^◌, ◌<◌, Bool, true, false, Option, Some, None, List, ◌∷◌, sum_by}
 use Rattle.std.specs.List.{list_any}
 use Rattle.units.specs.declared.report.Container.{Container}
 use Rattle.units.specs.declared.trigger.TriggerType.{TriggerType}
+use Rattle.units.specs.declared.answer.Action.{Action}
+use Rattle.units.specs.declared.answer.UnitInfo.{UnitInfo}
 use Rattle.units.specs.declared.answer.Amount.{Amount}
 use Rattle.units.specs.declared.answer.Amount.TheVariants.{Volume, Seconds}
 use Rattle.quotas.specs.declared.state.Limits.{Limits}
 use Rattle.quotas.specs.declared.standing.Standing.{Standing}
 use Rattle.quotas.specs.declared.standing.Standing.TheVariants.{Granted, Unlimited, Denied, Spent}
-use Rattle.quotas.specs.Standing.{spent_by}
-use Rattle.quotas.specs.Quota.{Quota, fired, capped, gate_of}
+use Rattle.quotas.specs.Quota.{Quota, is_asked, fired, capped, gate_of}
 use Rattle.quotas.specs.Due.{due_of}
-use Rattle.quotas.specs.Steps.{Step, quota_after, since_set, since_freezing, octets_in, seconds_in, octets_used, seconds_used, latest_use, latest_set, is_return, is_shut}
+use Rattle.quotas.specs.Steps.{Step, quota_after, since_freezing, octets_in, seconds_in, octets_used, seconds_used, latest_use, latest_set, unchanged_set, may_wish, is_answer, is_return, is_shut}
+use Rattle.quotas.specs.Steps.Step.{Answered}
 
 -- the use is the sum over the reports since the freezing of the request whose answer set the group, and over those since the
 -- latest freezing; the last use is the latest report's; quota is given back where a trigger did so since the latest freezing;
@@ -28,6 +30,24 @@ pub record IsOfTheList (steps : List Step) : Type 0 where
 -- granted units are those of the latest answer with an entry of the group
 abbrev pub TermsAreLatest : List Step → Type 0
 TermsAreLatest steps = (terms : _) → (quota_after steps).standing ≡ Granted terms → latest_set steps ≡ Some (Granted terms)
+
+-- so is the lack of a limit and the refusal; and last units that are used up leave that answer's action
+abbrev pub LeavesAction : Option Standing → Action → Type 0
+LeavesAction (Some (Granted terms)) action = terms.last_units ≡ Some action
+LeavesAction other action = ⊥
+
+pub record StandsByTheList (steps : List Step) : Type 0 where
+  pub terms : TermsAreLatest steps
+  pub unlimited : (quota_after steps).standing ≡ Unlimited → latest_set steps ≡ Some Unlimited
+  pub denied : (quota_after steps).standing ≡ Denied → latest_set steps ≡ Some Denied
+  pub spent : (action : Action) → (quota_after steps).standing ≡ Spent action → LeavesAction (latest_set steps) action
+  pub unchanged : (standing : Standing) → unchanged_set steps ≡ Some standing → (quota_after steps).standing ≡ standing
+
+-- a wish that no request carried was set since the latest freezing; and a group that is asked stays so until an answer
+pub record AsksByTheList (steps : List Step) : Type 0 where
+  pub wish : (quota_after steps).wish ≡ true → list_any may_wish (since_freezing steps) ≡ true
+  pub lasting : (step : Step) → is_answer step ≡ false → is_asked (quota_after steps) ≡ true → is_asked (quota_after (step ∷ steps)) ≡ true
+  pub answered : (stamp : ℕ) (info : Option UnitInfo) → is_asked (quota_after (Answered stamp info ∷ steps)) ≡ true → (quota_after (Answered stamp info ∷ steps)).wish ≡ true
 
 -- an amount is of its type
 abbrev pub Fits : Amount → Type 0

@@ -48,7 +48,7 @@ asked q = record q { wish = true }
 
 -- a request is made (frozen): it carries the wish and the give-back
 abbrev pub frozen : Quota → Quota
-frozen q = record q { wish = false; carried = q.wish; given_back = false; fresh_octets = 0; fresh_seconds = 0 }
+frozen q = record q { wish = false; carried = q.wish || q.carried; given_back = false; fresh_octets = 0; fresh_seconds = 0 }
 
 -- the request with this time stamp is answered with success. An entry sets the group; a wish that no request carried stays,
 -- unless no quota is managed any more. Without an entry the group is as before, and a free group wishes for quota again

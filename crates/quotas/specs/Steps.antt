@@ -1,10 +1,10 @@
 -- What came to a group, as a list whose newest entry comes first, and what is read off the whole list (TS 32.290, quota management).
-use Rattle.std.specs.Prelude.{ℕ, Bool, true, false, Option, Some, None, List, [], ◌∷◌, sum_by}
+use Rattle.std.specs.Prelude.{ℕ, Bool, true, false, if◌then◌else◌, Option, Some, None, List, [], ◌∷◌, sum_by}
 use Rattle.units.specs.declared.answer.UnitInfo.{UnitInfo}
 use Rattle.units.specs.declared.trigger.TriggerType.{TriggerType}
 use Rattle.quotas.specs.declared.standing.Standing.{Standing}
 use Rattle.quotas.specs.Standing.{set_by}
-use Rattle.quotas.specs.Effect.{returns_quota}
+use Rattle.quotas.specs.Effect.{wants_quota, returns_quota}
 use Rattle.quotas.specs.Quota.{Quota, new_quota, asked, frozen, answered, continued, used, shut_off, fired}
 
 -- a wish; a request made; its answer (time stamp of the request, entry of the group); a report (octets, seconds, moment);
@@ -71,6 +71,25 @@ abbrev pub latest_set : List Step → Option Standing
 latest_set [] = None
 latest_set (Answered stamp (Some info) ∷ earlier) = Some (set_by info.code stamp info)
 latest_set (step ∷ earlier) = latest_set earlier
+
+-- what the latest entry of the group set, where neither a trigger nor the want of a CHF has changed it since
+abbrev pub unchanged_set : List Step → Option Standing
+unchanged_set [] = None
+unchanged_set (Answered stamp (Some info) ∷ earlier) = Some (set_by info.code stamp info)
+unchanged_set (Continued ∷ earlier) = None
+unchanged_set (Fired trigger ∷ earlier) = if returns_quota trigger then None else unchanged_set earlier
+unchanged_set (step ∷ earlier) = unchanged_set earlier
+
+-- what may set a wish: asking, a trigger that wants quota, and an answer without an entry, where the group went on free
+abbrev pub may_wish : Step → Bool
+may_wish Asked = true
+may_wish (Fired trigger) = wants_quota trigger
+may_wish (Answered stamp None) = true
+may_wish other = false
+
+abbrev pub is_answer : Step → Bool
+is_answer (Answered stamp info) = true
+is_answer other = false
 
 -- a trigger that gives quota back
 abbrev pub is_return : Step → Bool

@@ -130,7 +130,7 @@ impl Group {
     pub fn freeze(&mut self)
         ensures { self.new ≡ frozen self.old }
     {
-        self.carried = self.wish;
+        self.carried = self.wish || self.carried;
         self.wish = false;
         self.given_back = false;
         self.fresh_octets = 0;

@@ -6,13 +6,14 @@ ghost use Rattle.quotas.specs.declared.standing.Standing.TheVariants.{Granted};
 ghost use Rattle.quotas.specs.Quota.{Quota};
 ghost use Rattle.quotas.specs.Due.{due_of};
 ghost use Rattle.quotas.specs.Steps.{Step, quota_after};
-ghost use Rattle.quotas.specs.Laws.{IsOfTheList, TermsAreLatest, DueByTheList, Fits, IsQuietAfter};
+ghost use Rattle.quotas.specs.Laws.{IsOfTheList, StandsByTheList, AsksByTheList, DueByTheList, Fits, IsQuietAfter};
 
 /// A group's quota is what the whole list of what came to it says: its use is a sum over reports, its terms are those of
 /// the latest answer, and what is due and the gate follow from these (TS 32.290; this product's own law).
 pub fn by_whole_list()
     ensures sums { (steps : List Step) → IsOfTheList steps }
-    ensures terms { (steps : List Step) → TermsAreLatest steps }
+    ensures standing { (steps : List Step) → StandsByTheList steps }
+    ensures asked { (steps : List Step) → AsksByTheList steps }
     ensures due { (steps : List Step) → ((terms : _) → (quota_after steps).standing ≡ Granted terms → Fits terms.amount) → DueByTheList steps }
 {}
 
