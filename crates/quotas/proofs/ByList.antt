@@ -13,7 +13,8 @@ use Rattle.quotas.specs.Standing.{left_of, gate_at}
 use Rattle.quotas.specs.Quota.{capped, is_asked}
 use Rattle.quotas.specs.Due.{on_terms, first_due}
 use Rattle.quotas.specs.Laws.{Fits, DueByTheList}
-use Rattle.quotas.specs.Steps.{Step, quota_after, octets_used, seconds_used}
+use Rattle.quotas.specs.declared.step.Step.{Step}
+use Rattle.quotas.specs.Steps.{quota_after, octets_used, seconds_used}
 use Rattle.quotas.proofs.Sums.{sums}
 
 -- what is left of an amount is the same whether the sum stands still at its type's end

@@ -14,8 +14,9 @@ use Rattle.quotas.specs.declared.standing.Standing.TheVariants.{Nothing, Granted
 use Rattle.quotas.specs.Standing.{without, spent, spent_by, left_of, set_by, granted_by}
 use Rattle.quotas.specs.Effect.{returns_quota, standing_after}
 use Rattle.quotas.specs.Laws.{TermsAreLatest, StandsByTheList, LeavesAction}
-use Rattle.quotas.specs.Steps.{Step, quota_after, latest_set, unchanged_set}
-use Rattle.quotas.specs.Steps.Step.{Asked, Frozen, Continued, Shut, Answered, Used, Fired}
+use Rattle.quotas.specs.declared.step.Step.{Step}
+use Rattle.quotas.specs.Steps.{quota_after, latest_set, unchanged_set}
+use Rattle.quotas.specs.declared.step.Step.TheVariants.{Asked, Frozen, Continued, Shut, Answered, Used, Fired}
 
 spent_from : (last : Option Action) (t u : Terms) → spent_by last t ≡ Granted u → Granted t ≡ Granted u
 spent_from None t u h = h

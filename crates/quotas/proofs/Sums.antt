@@ -5,8 +5,9 @@ use Rattle.std.proofs.lemmas.List.Sums.{sum_by-cons}
 use Rattle.quotas.specs.Quota.{capped}
 use Rattle.quotas.specs.Effect.{returns_quota}
 use Rattle.quotas.specs.Laws.{IsOfTheList}
-use Rattle.quotas.specs.Steps.{Step, since_set, since_freezing, octets_in, seconds_in}
-use Rattle.quotas.specs.Steps.Step.{Asked, Frozen, Continued, Shut, Answered, Used, Fired}
+use Rattle.quotas.specs.declared.step.Step.{Step}
+use Rattle.quotas.specs.Steps.{since_set, since_freezing, octets_in, seconds_in}
+use Rattle.quotas.specs.declared.step.Step.TheVariants.{Asked, Frozen, Continued, Shut, Answered, Used, Fired}
 
 -- a step adds its number to the sum
 more : (f : Step → ℕ) (step : Step) (steps : List Step) (n k : ℕ) → f step ≡ k → n ≡ capped (sum_by f steps) → capped (n + k) ≡ capped (sum_by f (step ∷ steps))

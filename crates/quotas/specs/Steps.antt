@@ -1,19 +1,11 @@
 -- What came to a group, as a list whose newest entry comes first, and what is read off the whole list (TS 32.290, quota management).
 use Rattle.std.specs.Prelude.{ℕ, Bool, true, false, if◌then◌else◌, Option, Some, None, List, [], ◌∷◌, sum_by}
-use Rattle.units.specs.declared.answer.UnitInfo.{UnitInfo}
-use Rattle.units.specs.declared.trigger.TriggerType.{TriggerType}
 use Rattle.quotas.specs.declared.standing.Standing.{Standing}
+use Rattle.quotas.specs.declared.step.Step.{Step}
+use Rattle.quotas.specs.declared.step.Step.TheVariants.{Asked, Frozen, Answered, Continued, Used, Fired, Shut}
 use Rattle.quotas.specs.Standing.{set_by}
 use Rattle.quotas.specs.Effect.{wants_quota, returns_quota}
 use Rattle.quotas.specs.Quota.{Quota, new_quota, asked, frozen, answered, continued, used, shut_off, fired}
-
--- a wish; a request made; its answer (time stamp of the request, entry of the group); a report (octets, seconds, moment);
--- a trigger; the session going on without a CHF; the session ending
-pub data Step : Type 0 where
-  Asked Frozen Continued Shut : Step
-  Answered : ℕ → Option UnitInfo → Step
-  Used : ℕ → ℕ → ℕ → Step
-  Fired : TriggerType → Step
 
 -- what one of them makes of the group
 abbrev pub quota_step : Step → Quota → Quota

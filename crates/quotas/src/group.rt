@@ -3,12 +3,14 @@ ghost use Rattle.std.specs.Option.{option_copied};
 ghost use Rattle.quotas.specs.Standing.{state_of};
 ghost use Rattle.quotas.specs.Quota.{Quota, new_quota, is_asked, gate_of, asked, frozen, answered, continued, used, shut_off, fired};
 ghost use Rattle.quotas.specs.Due.{due_of};
+ghost use Rattle.quotas.specs.Steps.{quota_step};
 
 use crate::due::{due_by_container, due_by_terms};
 use crate::standing::{
     Standing, bare_state, left_from, live_gate, spent_from, standing_from, without_quota,
 };
 use crate::state::{Gate, Limits, State};
+use crate::step::Step;
 use std::marker::Model;
 use units::{Container, Moment, TriggerType, UnitInfo};
 
@@ -200,6 +202,21 @@ impl Group {
                 self.given_back = true;
             }
             _ => {}
+        }
+    }
+
+    /// What came to the group, by the call of its name.
+    pub fn take(&mut self, step: &Step)
+        ensures { self.new ≡ quota_step step.now self.old }
+    {
+        match step {
+            Step::Asked => self.ask(),
+            Step::Frozen => self.freeze(),
+            Step::Answered(stamp, info) => self.answer(*stamp, info.as_ref()),
+            Step::Continued => self.continue_without(),
+            Step::Used(octets, seconds, moment) => self.used(*octets, *seconds, *moment),
+            Step::Fired(trigger) => self.fire(*trigger),
+            Step::Shut => self.shut(),
         }
     }
 }

@@ -5,7 +5,8 @@ ghost use Rattle.quotas.specs.declared.state.Limits.{Limits};
 ghost use Rattle.quotas.specs.declared.standing.Standing.TheVariants.{Granted};
 ghost use Rattle.quotas.specs.Quota.{Quota};
 ghost use Rattle.quotas.specs.Due.{due_of};
-ghost use Rattle.quotas.specs.Steps.{Step, quota_after};
+ghost use Rattle.quotas.specs.declared.step.Step.{Step};
+ghost use Rattle.quotas.specs.Steps.{quota_after};
 ghost use Rattle.quotas.specs.Laws.{IsOfTheList, StandsByTheList, AsksByTheList, DueByTheList, Fits, IsQuietAfter};
 
 /// A group's quota is what the whole list of what came to it says: its use is a sum over reports, its terms are those of
