@@ -60,5 +60,6 @@ due_by_list steps fits = record {
   where
     rest : (t : Terms) → (quota_after steps).standing ≡ Granted t → left_of t.amount (quota_after steps).octets (quota_after steps).seconds ≡ left_of t.amount (octets_used steps) (seconds_used steps)
     rest t h = left_capped t.amount _ _ _ _ (fits t h) (sums steps).octets (sums steps).seconds
+
     on : {f g : Terms → Bool} → ((t : Terms) → (quota_after steps).standing ≡ Granted t → f t ≡ g t) → (not (is_asked (quota_after steps)) && on_terms (quota_after steps).standing f) ≡ (not (is_asked (quota_after steps)) && on_terms (quota_after steps).standing g)
     on h = ap (λ b. not (is_asked (quota_after steps)) && b) (on_same (quota_after steps).standing _ _ h)
