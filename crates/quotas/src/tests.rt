@@ -408,7 +408,7 @@ fn is_due_by_the_table(rt: HostRuntime) -> Result<(), Fail> {
     ];
     let mut number = 0u32;
     for (code, grant, threshold, times, last_units, report, now, state, gate, trigger) in rows {
-        number += 1;
+        number = number.saturating_add(1);
         let mut group = answered(&entry(alloc, code, grant, threshold, times, last_units));
         if let Some((octets, seconds)) = report {
             group.used(octets, seconds, at(REPORTED));
