@@ -12,7 +12,7 @@ use Rattle.quotas.specs.declared.standing.Standing.TheVariants.{Nothing, Granted
 use Rattle.quotas.specs.Standing.{left_of, gate_at}
 use Rattle.quotas.specs.Quota.{capped, is_asked}
 use Rattle.quotas.specs.Due.{on_terms, first_due}
-use Rattle.quotas.specs.Laws.{Fits, DueByTheList}
+use Rattle.quotas.specs.Laws.{Fits, FitsGranted, DueByTheList}
 use Rattle.quotas.specs.declared.step.Step.{Step}
 use Rattle.quotas.specs.Steps.{quota_after, octets_used, seconds_used}
 use Rattle.quotas.proofs.Sums.{sums}
@@ -48,7 +48,7 @@ lines_same : (a b c d e f g h a' b' c' e' : Bool) → a ≡ a' → b ≡ b' → 
     ≡ first_due ((a', Final) ∷ (b', QuotaExhausted) ∷ (c', QuotaThreshold) ∷ (d, ValidityTime) ∷ (e', QuotaHoldingTime) ∷ (f, TariffTimeChange) ∷ (g, VolumeLimit) ∷ (h, TimeLimit) ∷ [])
 lines_same a b c d e f g h a' b' c' e' ha hb hc he = λ i. first_due ((ha i, Final) ∷ (hb i, QuotaExhausted) ∷ (hc i, QuotaThreshold) ∷ (d, ValidityTime) ∷ (he i, QuotaHoldingTime) ∷ (f, TariffTimeChange) ∷ (g, VolumeLimit) ∷ (h, TimeLimit) ∷ [])
 
-pub due_by_list : (steps : List Step) → ((t : Terms) → (quota_after steps).standing ≡ Granted t → Fits t.amount) → DueByTheList steps
+pub due_by_list : (steps : List Step) → FitsGranted (quota_after steps).standing → DueByTheList steps
 due_by_list steps fits = record {
   due = λ open_container unsafe_hour now limits. lines_same _ _ _ _ _ _ _ _ _ _ _ _
       (on (λ t h. ap (λ k. is_some t.last_units && (k == 0)) (rest t h)))

@@ -14,7 +14,7 @@ sets_wish ValidityTime standing = true
 sets_wish ForcedReauthorisation standing = is_granted standing
 sets_wish other standing = false
 
--- so at granted units (TS 32.255, 5.2.1)
+-- the triggers that set a wish where units are granted (TS 32.255, 5.2.1)
 abbrev pub wants_quota : TriggerType → Bool
 wants_quota QuotaExhausted = true
 wants_quota QuotaThreshold = true

@@ -32,11 +32,13 @@ pub record IsOfTheList (steps : List Step) : Type 0 where
 abbrev pub TermsAreLatest : List Step → Type 0
 TermsAreLatest steps = (terms : _) → (quota_after steps).standing ≡ Granted terms → latest_set steps ≡ Some (Granted terms)
 
--- so is the lack of a limit and the refusal; and last units that are used up leave that answer's action
+-- that answer granted last units with this action
 abbrev pub LeavesAction : Option Standing → Action → Type 0
 LeavesAction (Some (Granted terms)) action = terms.last_units ≡ Some action
 LeavesAction other action = ⊥
 
+-- what a group may use is what that answer set: granted units, no limit and a refusal alike; last units that were used up
+-- leave its action; and it stays so until a trigger gives quota back or the session goes on without a CHF
 pub record StandsByTheList (steps : List Step) : Type 0 where
   pub terms : TermsAreLatest steps
   pub unlimited : (quota_after steps).standing ≡ Unlimited → latest_set steps ≡ Some Unlimited
@@ -44,7 +46,8 @@ pub record StandsByTheList (steps : List Step) : Type 0 where
   pub spent : (action : Action) → (quota_after steps).standing ≡ Spent action → LeavesAction (latest_set steps) action
   pub unchanged : (standing : Standing) → unchanged_set steps ≡ Some standing → (quota_after steps).standing ≡ standing
 
--- a wish that no request carried was set since the latest freezing; and a group that is asked stays so until an answer
+-- a wish that no request carried was set since the latest freezing; a group that is asked stays so until an answer; and after
+-- an answer only such a wish is left
 pub record AsksByTheList (steps : List Step) : Type 0 where
   pub wish : (quota_after steps).wish ≡ true → list_any may_wish (since_freezing steps) ≡ true
   pub lasting : (step : Step) → is_answer step ≡ false → is_asked (quota_after steps) ≡ true → is_asked (quota_after (step ∷ steps)) ≡ true
@@ -59,9 +62,14 @@ Fits (Seconds time) = time < 2 ^ 32
 abbrev pub by_list : List Step → Quota
 by_list steps = record (quota_after steps) { octets = octets_used steps; seconds = seconds_used steps; last_use = latest_use steps }
 
+-- granted units are of their type
+abbrev pub FitsGranted : Standing → Type 0
+FitsGranted standing = (terms : _) → standing ≡ Granted terms → Fits terms.amount
+
 -- what is due, and the gate, are those of the latest answer's terms, the sum over the reports and the latest report
 pub record DueByTheList (steps : List Step) : Type 0 where
-  pub due : (open_container : Option Container) (unsafe_hour : Bool) (now : ℕ) (limits : Limits) → due_of (quota_after steps) open_container unsafe_hour now limits ≡ due_of (by_list steps) open_container unsafe_hour now limits
+  pub due : (open_container : Option Container) (unsafe_hour : Bool) (now : ℕ) (limits : Limits)
+      → due_of (quota_after steps) open_container unsafe_hour now limits ≡ due_of (by_list steps) open_container unsafe_hour now limits
   pub gate : gate_of (quota_after steps) ≡ gate_of (by_list steps)
 
 -- a group has no due trigger at the moment at which its first due one fired; that one closed the open container

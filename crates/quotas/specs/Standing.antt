@@ -51,14 +51,17 @@ state_of Denied = states.Denied
 state_of (Spent action) = states.Spent
 state_of Free = states.Free
 
+-- units are granted
 abbrev pub is_granted : Standing → Bool
 is_granted (Granted terms) = true
 is_granted other = false
 
+-- no quota is managed
 abbrev pub is_unlimited : Standing → Bool
 is_unlimited Unlimited = true
 is_unlimited other = false
 
+-- the session goes on without quota
 abbrev pub is_free : Standing → Bool
 is_free Free = true
 is_free other = false
@@ -88,6 +91,7 @@ abbrev pub spent_by : Option Action → Terms → Standing
 spent_by (Some action) terms = Spent action
 spent_by None terms = Granted terms
 
+-- so of granted units; without them there is nothing to spend
 abbrev pub spent : Standing → Standing
 spent (Granted terms) = spent_by terms.last_units terms
 spent Nothing = Nothing

@@ -79,6 +79,7 @@ may_wish (Fired trigger) = wants_quota trigger
 may_wish (Answered stamp None) = true
 may_wish other = false
 
+-- an answer with success
 abbrev pub is_answer : Step → Bool
 is_answer (Answered stamp info) = true
 is_answer other = false

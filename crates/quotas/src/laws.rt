@@ -2,24 +2,26 @@ ghost use Rattle.std.specs.Prelude.{◌≡◌, ℕ, Bool, List, Option, Some};
 ghost use Rattle.units.specs.declared.report.Container.{Container};
 ghost use Rattle.units.specs.declared.trigger.TriggerType.{TriggerType};
 ghost use Rattle.quotas.specs.declared.state.Limits.{Limits};
-ghost use Rattle.quotas.specs.declared.standing.Standing.TheVariants.{Granted};
 ghost use Rattle.quotas.specs.Quota.{Quota};
 ghost use Rattle.quotas.specs.Due.{due_of};
 ghost use Rattle.quotas.specs.declared.step.Step.{Step};
 ghost use Rattle.quotas.specs.Steps.{quota_after};
-ghost use Rattle.quotas.specs.Laws.{IsOfTheList, StandsByTheList, AsksByTheList, DueByTheList, Fits, IsQuietAfter};
+ghost use Rattle.quotas.specs.Laws.{IsOfTheList, StandsByTheList, AsksByTheList, DueByTheList, FitsGranted, IsQuietAfter};
 
-/// A group's quota is what the whole list of what came to it says: its use is a sum over reports, its terms are those of
-/// the latest answer, and what is due and the gate follow from these (TS 32.290; this product's own law).
+/// A group's quota is what the whole list of what came to it says (TS 32.290, quota management; the law is this product's
+/// own): its use is the sum over the reports after the freezing of the request whose answer set it, its terms are those of
+/// the latest answer, it is asked from a wish to the answer, and what is due and the gate follow from these.
 pub fn by_whole_list()
     ensures sums { (steps : List Step) → IsOfTheList steps }
     ensures standing { (steps : List Step) → StandsByTheList steps }
     ensures asked { (steps : List Step) → AsksByTheList steps }
-    ensures due { (steps : List Step) → ((terms : _) → (quota_after steps).standing ≡ Granted terms → Fits terms.amount) → DueByTheList steps }
+    ensures due { (steps : List Step) → FitsGranted (quota_after steps).standing → DueByTheList steps }
 {}
 
-/// A trigger that fired is not due again at its moment, nor is another: settling a group twice is settling it once (this
-/// product's own law).
+/// After a trigger fired none is due at the same moment, so settling a group twice is settling it once (this product's own).
 pub fn fires_once()
-    ensures { (q : Quota) (open_container : Option Container) (unsafe_hour : Bool) (now : ℕ) (limits : Limits) (trigger : TriggerType) → due_of q open_container unsafe_hour now limits ≡ Some trigger → IsQuietAfter q now limits trigger }
+    ensures { (q : Quota) (open_container : Option Container) (unsafe_hour : Bool) (now : ℕ)
+        (limits : Limits) (trigger : TriggerType)
+        → due_of q open_container unsafe_hour now limits ≡ Some trigger
+        → IsQuietAfter q now limits trigger }
 {}

@@ -71,356 +71,96 @@ fn due(group: &Group, now: u64) -> Option<TriggerType> {
     group.due(None, false, at(now), &NO_LIMITS)
 }
 
-// One answer, at most one report, and a moment. The expected values are read off the trigger table by hand.
+// Granted units, at most one report, and a moment in seconds after the request's time stamp: what is due, as read off the
+// trigger table by hand. Nothing is left exactly where the quota is used up, so the gate waits there.
 #[test]
 fn is_due_by_the_table(rt: HostRuntime) -> Result<(), Fail> {
     let alloc = rt.alloc();
     let million = Some(Volume(1000000));
-    let minute = Some(Seconds(60));
-    let end = 3155759999;
-    let never = u32::MAX;
-    // Code, grant, threshold, validity and holding time, last units, report, now; state, gate, what is due.
+    let end = Moment::LAST - STAMP;
+    let warned = entry(alloc, Success, million, 100000, (3600, 0), None);
+    let plain = volume(alloc, 1000000);
+    let none = volume(alloc, 0);
+    let most = volume(alloc, u64::MAX);
+    let last = entry(alloc, Success, million, 2000000, (0, 0), Some(Redirect));
+    let early = entry(alloc, Success, million, 1000000, (0, 0), None);
+    let earlier = entry(alloc, Success, million, 2000000, (0, 0), None);
+    let never = entry(alloc, Success, million, 0, (u32::MAX, u32::MAX), None);
+    let held = entry(alloc, Success, million, 0, (0, 60), None);
+    let last_held = entry(alloc, Success, million, 0, (0, 60), Some(Terminate));
+    let both = entry(alloc, Success, million, 0, (60, 60), None);
+    let minute = entry(alloc, Success, Some(Seconds(60)), 10, (0, 0), None);
     let rows = [
-        (
-            Success,
-            million,
-            100000,
-            (3600, 0),
-            None,
-            Some((900000, 60)),
-            REPORTED,
-            State::Granted,
-            Gate::Passing,
-            Some(QuotaThreshold),
-        ),
-        (
-            Success,
-            million,
-            100000,
-            (3600, 0),
-            None,
-            Some((899999, 60)),
-            REPORTED,
-            State::Granted,
-            Gate::Passing,
-            None,
-        ),
-        (
-            Success,
-            million,
-            100000,
-            (3600, 0),
-            None,
-            None,
-            1767326644,
-            State::Granted,
-            Gate::Passing,
-            None,
-        ),
-        (
-            Success,
-            million,
-            100000,
-            (3600, 0),
-            None,
-            None,
-            1767326645,
-            State::Granted,
-            Gate::Passing,
-            Some(ValidityTime),
-        ),
-        (
-            Success,
-            None,
-            0,
-            (1, 1),
-            None,
-            Some((u64::MAX, 1)),
-            end,
-            State::Unlimited,
-            Gate::Passing,
-            None,
-        ),
-        (
-            NotApplicable,
-            million,
-            0,
-            (1, 1),
-            None,
-            None,
-            end,
-            State::Unlimited,
-            Gate::Passing,
-            None,
-        ),
-        (
-            Denied,
-            million,
-            0,
-            (1, 1),
-            None,
-            None,
-            end,
-            State::Denied,
-            Gate::Closed,
-            None,
-        ),
-        (
-            LimitReached,
-            None,
-            0,
-            (1, 1),
-            None,
-            None,
-            end,
-            State::Denied,
-            Gate::Closed,
-            None,
-        ),
-        (
-            RatingFailed,
-            None,
-            0,
-            (1, 1),
-            None,
-            None,
-            end,
-            State::Denied,
-            Gate::Closed,
-            None,
-        ),
-        (
-            Success,
-            million,
-            0,
-            (0, 0),
-            None,
-            Some((2000000, 1)),
-            REPORTED,
-            State::Granted,
-            Gate::Waiting,
-            Some(QuotaExhausted),
-        ),
-        (
-            Success,
-            million,
-            0,
-            (0, 0),
-            Some(Redirect),
-            Some((u64::MAX, 1)),
-            REPORTED,
-            State::Granted,
-            Gate::Waiting,
-            Some(Final),
-        ),
-        (
-            Success,
-            Some(Volume(u64::MAX)),
-            0,
-            (0, 0),
-            None,
-            Some((u64::MAX - 1, 1)),
-            end,
-            State::Granted,
-            Gate::Passing,
-            None,
-        ),
-        (
-            Success,
-            million,
-            1000000,
-            (0, 0),
-            None,
-            None,
-            STAMP,
-            State::Granted,
-            Gate::Passing,
-            Some(QuotaThreshold),
-        ),
-        (
-            Success,
-            million,
-            2000000,
-            (0, 0),
-            None,
-            Some((1, 1)),
-            REPORTED,
-            State::Granted,
-            Gate::Passing,
-            Some(QuotaThreshold),
-        ),
-        (
-            Success,
-            million,
-            2000000,
-            (0, 0),
-            Some(Terminate),
-            Some((999999, 1)),
-            REPORTED,
-            State::Granted,
-            Gate::Passing,
-            None,
-        ),
-        (
-            Success,
-            million,
-            0,
-            (0, 0),
-            None,
-            Some((999999, 1)),
-            end,
-            State::Granted,
-            Gate::Passing,
-            None,
-        ),
-        (
-            Success,
-            million,
-            0,
-            (never, never),
-            None,
-            None,
-            end,
-            State::Granted,
-            Gate::Passing,
-            None,
-        ),
-        (
-            Success,
-            million,
-            0,
-            (0, 60),
-            None,
-            None,
-            STAMP + 59,
-            State::Granted,
-            Gate::Passing,
-            None,
-        ),
-        (
-            Success,
-            million,
-            0,
-            (0, 60),
-            None,
-            None,
-            STAMP + 60,
-            State::Granted,
-            Gate::Passing,
-            Some(QuotaHoldingTime),
-        ),
-        (
-            Success,
-            million,
-            0,
-            (0, 60),
-            None,
-            Some((0, 0)),
-            REPORTED + 59,
-            State::Granted,
-            Gate::Passing,
-            None,
-        ),
-        (
-            Success,
-            million,
-            0,
-            (0, 60),
-            Some(Terminate),
-            Some((0, 0)),
-            REPORTED + 60,
-            State::Granted,
-            Gate::Passing,
-            Some(QuotaHoldingTime),
-        ),
-        (
-            Success,
-            million,
-            0,
-            (60, 60),
-            None,
-            None,
-            STAMP + 60,
-            State::Granted,
-            Gate::Passing,
-            Some(ValidityTime),
-        ),
-        (
-            Success,
-            million,
-            0,
-            (60, 60),
-            None,
-            Some((1000000, 1)),
-            end,
-            State::Granted,
-            Gate::Waiting,
-            Some(QuotaExhausted),
-        ),
-        (
-            Success,
-            minute,
-            10,
-            (0, 0),
-            None,
-            Some((u64::MAX, 49)),
-            REPORTED,
-            State::Granted,
-            Gate::Passing,
-            None,
-        ),
-        (
-            Success,
-            minute,
-            10,
-            (0, 0),
-            None,
-            Some((0, 50)),
-            REPORTED,
-            State::Granted,
-            Gate::Passing,
-            Some(QuotaThreshold),
-        ),
-        (
-            Success,
-            minute,
-            10,
-            (0, 0),
-            None,
-            Some((0, 61)),
-            REPORTED,
-            State::Granted,
-            Gate::Waiting,
-            Some(QuotaExhausted),
-        ),
-        (
-            Success,
-            Some(Volume(0)),
-            0,
-            (0, 0),
-            None,
-            None,
-            STAMP,
-            State::Granted,
-            Gate::Waiting,
-            Some(QuotaExhausted),
-        ),
+        (&warned, Some((900000, 60)), 955, Some(QuotaThreshold)),
+        (&warned, Some((899999, 60)), 955, None),
+        (&warned, None, 3599, None),
+        (&warned, None, 3600, Some(ValidityTime)),
+        (&plain, Some((2000000, 1)), 955, Some(QuotaExhausted)),
+        (&plain, Some((999999, 1)), end, None),
+        (&none, None, 0, Some(QuotaExhausted)),
+        (&most, Some((u64::MAX - 1, 1)), end, None),
+        (&most, Some((u64::MAX, 1)), 955, Some(QuotaExhausted)),
+        (&last, Some((u64::MAX, 1)), 955, Some(Final)),
+        (&last, Some((999999, 1)), end, None),
+        (&early, None, 0, Some(QuotaThreshold)),
+        (&earlier, Some((1, 1)), 955, Some(QuotaThreshold)),
+        (&never, None, end, None),
+        (&held, None, 59, None),
+        (&held, None, 60, Some(QuotaHoldingTime)),
+        (&held, Some((0, 0)), 1014, None),
+        (&held, Some((0, 0)), 1015, Some(QuotaHoldingTime)),
+        (&last_held, Some((0, 0)), 1015, Some(QuotaHoldingTime)),
+        (&both, None, 60, Some(ValidityTime)),
+        (&both, Some((1000000, 1)), end, Some(QuotaExhausted)),
+        (&minute, Some((u64::MAX, 49)), 955, None),
+        (&minute, Some((0, 50)), 955, Some(QuotaThreshold)),
+        (&minute, Some((0, 61)), 955, Some(QuotaExhausted)),
     ];
     let mut number = 0u32;
-    for (code, grant, threshold, times, last_units, report, now, state, gate, trigger) in rows {
+    for (info, report, after, trigger) in rows {
         number = number.saturating_add(1);
-        let mut group = answered(&entry(alloc, code, grant, threshold, times, last_units));
+        let now = STAMP.saturating_add(after);
+        let mut group = answered(info);
         if let Some((octets, seconds)) = report {
             group.used(octets, seconds, at(REPORTED));
         }
-        assert!(rt; group.state() == state, "{number}");
-        assert!(rt; group.gate() == gate, "{number}");
+        let gate = match trigger {
+            Some(Final) | Some(QuotaExhausted) => Gate::Waiting,
+            _ => Gate::Passing,
+        };
+        assert!(rt;
+            group.state() == State::Granted && group.gate() == gate,
+            "{number}"
+        );
         assert!(rt; due(&group, now) == trigger, "{number}");
         group.ask();
         assert!(rt;
             due(&group, now).is_none() && group.gate() == gate,
             "{number}"
         );
+    }
+    Ok(())
+}
+
+// What sets a group without granted units: nothing is due at any time.
+#[test]
+fn is_set_by_the_code(rt: HostRuntime) -> Result<(), Fail> {
+    let alloc = rt.alloc();
+    let grant = Some(Volume(9));
+    let rows = [
+        (Success, None, State::Unlimited, Gate::Passing),
+        (NotApplicable, grant, State::Unlimited, Gate::Passing),
+        (NotApplicable, None, State::Unlimited, Gate::Passing),
+        (Denied, grant, State::Denied, Gate::Closed),
+        (Denied, None, State::Denied, Gate::Closed),
+        (LimitReached, None, State::Denied, Gate::Closed),
+        (RatingFailed, None, State::Denied, Gate::Closed),
+    ];
+    for (code, grant, state, gate) in rows {
+        let mut group = answered(&entry(alloc, code, grant, 1, (1, 1), Some(Redirect)));
+        group.used(u64::MAX, 1, at(REPORTED));
+        assert!(rt; group.state() == state && group.gate() == gate && !group.is_asked());
+        assert!(rt; due(&group, Moment::LAST).is_none());
     }
     Ok(())
 }
