@@ -40,7 +40,7 @@ impl Model for Group {
 }
 
 impl Group {
-    /// A group for which nothing came yet: no quota, not asked, no use.
+    /// A group for which nothing came yet: no quota, not asked, no use (TS 32.290, quota management).
     pub fn new() -> Group
         ensures { result ≡ new_quota }
     {
@@ -58,7 +58,7 @@ impl Group {
         }
     }
 
-    /// What the group may use.
+    /// What the group may use, by its latest answer and what came since (TS 32.290, quota management).
     pub fn state(&self) -> State
         ensures { result ≡ state_of self.now.standing }
     {
@@ -86,7 +86,7 @@ impl Group {
         self.given_back
     }
 
-    /// What becomes of the group's traffic.
+    /// What becomes of the group's traffic: granted units pass until none is left (TS 32.290, quota management).
     pub fn gate(&self) -> Gate
         ensures { result ≡ gate_of self.now }
     {
@@ -121,14 +121,15 @@ impl Group {
         due_by_container(open_container, unsafe_hour, limits)
     }
 
-    /// Quota is wished for. A group of state Unlimited needs none: its caller does not ask.
+    /// Quota is wished for (TS 32.290, quota management). A group of state Unlimited needs none: its caller does not ask.
     pub fn ask(&mut self)
         ensures { self.new ≡ asked self.old }
     {
         self.wish = true;
     }
 
-    /// A request of the session was made: it carries the group's wish and its give-back, and use counts afresh for its answer.
+    /// A request of the session was made (frozen): it carries the group's wish and its give-back, and use counts afresh for
+    /// its answer (TS 32.290, quota management).
     pub fn freeze(&mut self)
         ensures { self.new ≡ frozen self.old }
     {
@@ -164,8 +165,8 @@ impl Group {
         self.standing = without_quota(self.standing, self.octets, self.seconds);
     }
 
-    /// A report of the group: octets up and down, seconds, and its moment. The sums end at 2^64 - 1, so what is left of
-    /// an amount, which is below that, is exact.
+    /// A report of the group: octets up and down together, seconds, and its moment (TS 32.290, quota management). The sums
+    /// end at 2^64 - 1, so what is left of an amount, which is at most that, is exact.
     pub fn used(&mut self, octets: u64, seconds: u32, moment: Moment)
         ensures { self.new ≡ used octets seconds moment self.old }
     {
@@ -176,7 +177,7 @@ impl Group {
         self.last_use = moment;
     }
 
-    /// The session is ending or has ended: the gate stays closed.
+    /// The session is ending or has ended: the gate stays closed (this product's own).
     pub fn shut(&mut self)
         ensures { self.new ≡ shut_off self.old }
     {
@@ -205,7 +206,7 @@ impl Group {
         }
     }
 
-    /// What came to the group, by the call of its name.
+    /// What came to the group, by the call that is named for it (this product's own).
     pub fn take(&mut self, step: &Step)
         ensures { self.new ≡ quota_step step.now self.old }
     {
