@@ -1,0 +1,6 @@
+pub mod Turns
+pub mod Fronts
+pub mod Found
+pub mod Spelled
+pub mod Front
+pub mod Shortest

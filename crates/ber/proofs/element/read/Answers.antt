@@ -1,0 +1,9 @@
+use Rattle.std.proofs.Common.{arith}
+use Rattle.ber.proofs.Front.{is_found, is_only}
+use Rattle.ber.proofs.element.read.Goals as goal
+
+pub returns-clause-found : goal.returns-clause-found
+returns-clause-found g c = is_found g.G.Grammar.rules c.args.grammar c.args.bytes.now _ c.front.result c.front.ensures.exact
+
+pub returns-clause-only : goal.returns-clause-only
+returns-clause-only g c = is_only g.G.Grammar.rules c.args.grammar c.args.bytes.now _ c.front.result c.front.ensures.exact c.front.ensures.bound
