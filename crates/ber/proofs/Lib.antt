@@ -3,4 +3,5 @@ pub mod Fronts
 pub mod Found
 pub mod Spelled
 pub mod Front
+pub mod Bounds
 pub mod Shortest

@@ -3,6 +3,7 @@ ghost use Rattle.ber.specs.Element.{Element, element};
 ghost use Rattle.ber.specs.Spelling.{Spells};
 ghost use Rattle.ber.specs.Grammar.{Admits};
 ghost use Rattle.ber.specs.Anything.{first_element};
+ghost use Rattle.ber.specs.Written.{IsBounded};
 ghost use Rattle.ber.specs.Reading.{Gives, element_at};
 
 use crate::anything::Anything;
@@ -30,6 +31,8 @@ pub fn read<G: Grammar>(alloc: Global, grammar: G, bytes: &[u8]) -> Result<(Tlv,
     ensures found { IfOk result (λ x. (x.1 ≤ length bytes.now) × Spells 16 (take x.1 bytes.now) (element x.0) × Admits G.rules grammar (element x.0)) }
     // What is spelled so and admitted is read, unless memory is wanting.
     ensures only { (e : Element) (n : ℕ) → n ≤ length bytes.now → Spells 16 (take n bytes.now) e → Admits G.rules grammar e → Gives {Y = Element × ℕ} (λ x. (element x.0, x.1)) result (Ok (e, n)) }
+    // What is read can be written and read again.
+    ensures bounded { IfOk result (λ x. IsBounded 16 (element x.0)) }
 {
     front(alloc, grammar, bytes)
 }
@@ -43,6 +46,8 @@ pub fn read_tlv(alloc: Global, bytes: &[u8]) -> Result<(Tlv, usize), BerRefusal>
     ensures found { IfOk result (λ x. (x.1 ≤ length bytes.now) × Spells 16 (take x.1 bytes.now) (element x.0)) }
     // What is spelled so is read, unless memory is wanting.
     ensures only { (e : Element) (n : ℕ) → n ≤ length bytes.now → Spells 16 (take n bytes.now) e → Gives {Y = Element × ℕ} (λ x. (element x.0, x.1)) result (Ok (e, n)) }
+    // What is read can be written and read again.
+    ensures bounded { IfOk result (λ x. IsBounded 16 (element x.0)) }
 {
     read(alloc, Anything, bytes)
 }
