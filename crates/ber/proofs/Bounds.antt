@@ -1,12 +1,12 @@
 -- What octets below 256 spell is within the bounds on tags and depth.
-use Rattle.std.proofs.Common.{◌≡◌, ℕ, suc, ◌+◌, ◌-◌, ◌*◌, ◌/◌, ◌%◌, ◌^◌, ◌<◌, ◌≤◌, ◌⊎◌, inl, inr, Bool, true, false, eqb, List, [], ◌∷◌, ◌++◌, length, take, refl, sym, ap, ◌∙◌, subst, arith}
+use Rattle.std.proofs.Common.{◌≡◌, ℕ, suc, ◌-◌, ◌/◌, ◌^◌, ◌<◌, ◌≤◌, inl, inr, Bool, true, false, eqb, List, [], ◌∷◌, ◌++◌, length, take, refl, sym, ap, ◌∙◌, subst, arith}
 use Rattle.std.specs.Prelude.{◌&&◌, Result, Ok, Err, IfOk}
 use Rattle.std.specs.Prelude.{get_or, drop}
 use Rattle.std.proofs.lemmas.Bool.{ne_eqb}
 use Rattle.std.proofs.lemmas.List.{take-append-drop}
 use Rattle.ber.specs.declared.tag.Tag.{Tag}
 use Rattle.ber.specs.Element.{Element, primitive, constructed, Elements, none, more, tag_is}
-use Rattle.ber.specs.Spelling.{tag_of, IsLow, IsHigh, IsIdentifier, SpellsInside, SpellsAll, Spells}
+use Rattle.ber.specs.Spelling.{tag_of, IsIdentifier, SpellsInside, SpellsAll, Spells}
 use Rattle.ber.specs.Written.{IsTag, IsBounded, AreBounded}
 use Rattle.ber.specs.declared.refusal.BerRefusal.{BerRefusal}
 use Rattle.ber.specs.Grammar.{Rules}

@@ -1,17 +1,17 @@
 -- What is read is spelled so and conforms, and what is spelled so and conforms is read.
-use Rattle.std.proofs.Common.{◌≡◌, ℕ, zero, suc, ◌+◌, ◌-◌, ◌^◌, ◌<◌, ◌≤◌, ◌⊎◌, inl, inr, Bool, true, false, cond, eqb, ltb, List, [], ◌∷◌, ◌++◌, length, take, drop, Option, Some, None, Result, Ok, Err, refl, sym, ap, ◌∙◌, subst, append_assoc, arith}
-use Rattle.std.proofs.lemmas.Bool.{ltb-true, ltb-false, lt-ltb, le-ltb, eqb-true, eqb-false, ne_eqb}
-use Rattle.std.proofs.lemmas.List.{take_at, drop_at, take-append-drop, length-append, length-take, append-nil, nil_from_length}
+use Rattle.std.proofs.Common.{◌≡◌, ℕ, zero, suc, ◌+◌, ◌-◌, inl, inr, Bool, true, false, cond, eqb, ltb, List, [], ◌∷◌, ◌++◌, length, take, drop, Option, Some, None, Result, Ok, Err, refl, sym, ap, ◌∙◌, subst, append_assoc, arith}
+use Rattle.std.proofs.lemmas.Bool.{ltb-false, eqb-true}
+use Rattle.std.proofs.lemmas.List.{take-append-drop, length-take, append-nil}
 use Rattle.ber.specs.declared.tag.Tag.{Tag}
 use Rattle.ber.specs.declared.grammar.Step.{Step}
 use Rattle.ber.specs.declared.grammar.Step.TheVariants as steps
 use Rattle.ber.specs.Octets.{tag_at, length_at}
-use Rattle.ber.specs.Spelling.{tag_of, IsIdentifier, IsLength, IsFramed, SpellsInside, SpellsAll, Spells}
+use Rattle.ber.specs.Spelling.{IsIdentifier, IsLength, SpellsInside, SpellsAll}
 use Rattle.ber.specs.Element.{Element, primitive, constructed, Elements, none, more, tag_is}
 use Rattle.ber.specs.Grammar.{Rules, Conforms, AllConform}
 use Rattle.ber.specs.Reading.{Inside, ◌>>=◌, or_fault, entering, after, end_at, closing, item_with, items_with, definite_with, contents_with, inside_at}
 use Rattle.ber.proofs.Turns.{turn}
-use Rattle.ber.proofs.Fronts.{chosen, some, some_is, Front, IsFront, tag_found, tag_again, length_found, length_again}
+use Rattle.ber.proofs.Fronts.{chosen, some, some_is, Front, IsFront, tag_found, length_found}
 
 pub bind_ok : {A B : Type 0} (r : Result A ℕ) (f : A → Result B ℕ) (y : B) → (r >>= f) ≡ Ok y → (x : A) × (r ≡ Ok x) × (f x ≡ Ok y)
 bind_ok (Ok x) f y e = (x, refl, e)

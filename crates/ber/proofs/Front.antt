@@ -1,12 +1,12 @@
 -- The two laws of reading, of the element at the front.
-use Rattle.std.proofs.Common.{◌≡◌, ℕ, zero, suc, ◌+◌, ◌-◌, ◌^◌, ◌<◌, ◌≤◌, true, List, [], ◌∷◌, ◌++◌, length, take, drop, Result, Ok, Err, refl, sym, ap, ◌∙◌, subst, append_assoc, arith}
+use Rattle.std.proofs.Common.{◌≡◌, ℕ, ◌+◌, ◌-◌, ◌^◌, ◌<◌, ◌≤◌, List, ◌++◌, length, take, drop, Result, Ok, Err, refl, sym, ap, ◌∙◌, subst, append_assoc, arith}
 use Rattle.std.specs.Prelude.{IfOk}
-use Rattle.std.proofs.lemmas.List.{take_at, drop_at, take-append-drop, length-append, length-take}
+use Rattle.std.proofs.lemmas.List.{take_at, take-append-drop, length-append, length-take}
 use Rattle.ber.specs.declared.anything.Anything.{Anything}
-use Rattle.ber.specs.Element.{Element, primitive, constructed, Elements, none, more, tag_is}
-use Rattle.ber.specs.Reading.{Gives, ◌>>=◌, item_with, inside_at, element_at}
+use Rattle.ber.specs.Element.{Element, primitive, constructed, Elements, none, more}
+use Rattle.ber.specs.Reading.{Gives, item_with, inside_at, element_at}
 use Rattle.ber.specs.Grammar.{Rules, Conforms, AllConform, Admits}
-use Rattle.ber.specs.Spelling.{SpellsInside, Spells}
+use Rattle.ber.specs.Spelling.{Spells}
 use Rattle.ber.specs.Anything.{anything, one}
 use Rattle.ber.specs.declared.refusal.BerRefusal.{BerRefusal}
 use Rattle.ber.proofs.Found.{bind_ok, ok_is, item_found, inside_found}

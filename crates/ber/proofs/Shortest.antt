@@ -1,8 +1,8 @@
 -- What is written spells the element.
-use Rattle.std.proofs.Common.{◌≡◌, ℕ, zero, suc, ◌+◌, ◌-◌, ◌*◌, ◌/◌, ◌%◌, ◌^◌, ◌<◌, ◌≤◌, ◌⊎◌, inl, inr, Bool, true, false, cond, eqb, ltb, leb, List, [], ◌∷◌, ◌++◌, length, take, drop, Option, Some, None, Result, Ok, Err, refl, sym, ap, ◌∙◌, subst, append_assoc, arith}
+use Rattle.std.proofs.Common.{◌≡◌, ℕ, ◌+◌, ◌-◌, ◌*◌, ◌/◌, ◌%◌, ◌^◌, ◌<◌, ◌≤◌, inl, inr, Bool, true, false, eqb, List, [], ◌∷◌, ◌++◌, length, take, drop, Result, Ok, Err, refl, sym, ap, ◌∙◌, subst, append_assoc, arith}
 use Rattle.std.specs.Prelude.{◌&&◌, IfOk}
 use Rattle.std.specs.Int.{w64, to_be_bytes}
-use Rattle.std.proofs.lemmas.Bool.{ltb-true, ltb-false, lt-ltb, le-ltb, eqb-true, eqb-false, ne_eqb, cases_lt}
+use Rattle.std.proofs.lemmas.Bool.{lt-ltb, le-ltb, ne_eqb, cases_lt}
 use Rattle.std.proofs.lemmas.Bool.Decides.{nat_tests}
 use Rattle.std.proofs.lemmas.List.{append-nil, at_drop_all, length-append, take_at}
 use Rattle.ber.specs.Anything.{anything, one, first_element}
@@ -11,7 +11,7 @@ use Rattle.std.specs.Prelude.{OnOk}
 use Rattle.ber.specs.declared.tlv.Tlv.{Tlv}
 use Rattle.std.proofs.lemmas.Nat.{from_be_bytes-to_be_bytes_8}
 use Rattle.ber.specs.declared.tag.Tag.{Tag}
-use Rattle.ber.specs.Spelling.{starts_with, tag_of, AreDigits, IsLow, IsHigh, IsIdentifier, value_of, IsLength, IsFramed, SpellsInside, SpellsAll, Spells}
+use Rattle.ber.specs.Spelling.{starts_with, tag_of, AreDigits, IsIdentifier, value_of, IsLength, SpellsInside, SpellsAll, Spells}
 use Rattle.ber.specs.Element.{Element, primitive, constructed, Elements, none, more, elements, tag_is}
 use Rattle.ber.specs.Written.{octet_count, length_octets, high_octets, form_bit, identifier, inside_written, written_all, written, IsTag, IsBounded, AreBounded}
 

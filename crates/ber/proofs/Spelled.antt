@@ -1,15 +1,15 @@
 -- What is spelled so and conforms is read, whatever follows.
-use Rattle.std.proofs.Common.{◌≡◌, ℕ, zero, suc, ◌+◌, ◌-◌, ◌^◌, ◌<◌, ◌≤◌, ◌⊎◌, inl, inr, Bool, true, false, cond, eqb, ltb, List, [], ◌∷◌, ◌++◌, length, take, drop, Option, Some, None, Result, Ok, Err, refl, sym, ap, ◌∙◌, subst, append_assoc, arith}
+use Rattle.std.proofs.Common.{◌≡◌, ℕ, suc, ◌+◌, ◌-◌, ◌^◌, ◌<◌, ◌≤◌, inl, inr, Bool, true, false, eqb, List, [], ◌∷◌, ◌++◌, length, Some, None, Ok, refl, ap, ◌∙◌, subst, append_assoc, arith}
 use Rattle.std.specs.Prelude.{nat_lt}
-use Rattle.std.proofs.lemmas.Bool.{ltb-true, ltb-false, lt-ltb, le-ltb, eqb-true, eqb-false, ne_eqb}
-use Rattle.std.proofs.lemmas.List.{take_at, drop_at, take-append-drop, length-append, length-take, append-nil}
+use Rattle.std.proofs.lemmas.Bool.{le-ltb, eqb-true, ne_eqb}
+use Rattle.std.proofs.lemmas.List.{take_at, drop_at, length-append, append-nil}
 use Rattle.ber.specs.declared.tag.Tag.{Tag}
 use Rattle.ber.specs.declared.grammar.Step.TheVariants as steps
 use Rattle.ber.specs.Octets.{tag_at, length_at}
-use Rattle.ber.specs.Spelling.{tag_of, IsIdentifier, IsLength, IsFramed, SpellsInside, SpellsAll, Spells}
+use Rattle.ber.specs.Spelling.{IsIdentifier, IsLength, IsFramed, SpellsInside, SpellsAll}
 use Rattle.ber.specs.Element.{Element, primitive, constructed, Elements, none, more, tag_is}
 use Rattle.ber.specs.Grammar.{Rules, Conforms, AllConform}
-use Rattle.ber.specs.Reading.{Inside, ◌>>=◌, or_fault, entering, after, end_at, closing, item_with, items_with, definite_with, contents_with, inside_at}
+use Rattle.ber.specs.Reading.{Inside, after, end_at, item_with, items_with, inside_at}
 use Rattle.ber.proofs.Turns.{turn, inside_is}
 use Rattle.ber.proofs.Fronts.{some, tag_again, length_again}
 use Rattle.ber.proofs.Found.{Ends}

@@ -1,18 +1,18 @@
 -- Reading elements one after the other, as a loop does.
-use Rattle.std.proofs.Common.{◌≡◌, ℕ, zero, suc, ◌+◌, ◌-◌, ◌<◌, ◌≤◌, Bool, true, false, cond, eqb, List, [], ◌∷◌, ◌++◌, length, Option, Some, None, Result, Ok, Err, refl, sym, ap, ◌∙◌, arith}
+use Rattle.std.proofs.Common.{◌≡◌, ℕ, suc, ◌+◌, ◌-◌, ◌<◌, ◌≤◌, Bool, true, false, cond, eqb, List, [], ◌∷◌, ◌++◌, length, Option, Some, None, Result, Ok, Err, refl, sym, ap, ◌∙◌, arith}
 use Rattle.std.specs.Prelude.{take, drop, nat_lt}
 use Rattle.std.proofs.lemmas.Bool.{le-ltb}
 use Rattle.ber.specs.declared.tag.Tag.{Tag}
 use Rattle.ber.specs.Octets.{length_at}
 use Rattle.ber.specs.Element.{Element, Elements, none, more, element, elements, element_of, row_of, constructed}
 use Rattle.ber.specs.Grammar.{Rules}
-use Rattle.ber.specs.Reading.{Inside, ◌>>=◌, after, end_at, closing, item_with, items_with, inside_at, contents_with, definite_with, or_fault, Fails}
+use Rattle.ber.specs.Reading.{Inside, ◌>>=◌, after, end_at, closing, item_with, items_with, inside_at, contents_with, Fails}
 use Rattle.ber.specs.declared.tlv.Tlv.{Tlv}
 use Rattle.ber.specs.declared.tlv.Body.TheBlock.{hidden-the_row-Tlv-0}
 use Rattle.std.specs.Option.{option_map}
 use Rattle.ber.specs.declared.refusal.BerRefusal.{BerRefusal}
 use Rattle.ber.specs.declared.refusal.BerRefusal.TheVariants as refusal
-use Rattle.ber.specs.declared.tlv.Body.{Body, Primitive, Constructed, Row_of-Tlv, end_of-Tlv, more_of-Tlv, items-the_row-Tlv, items_hidden-the_row-Tlv-0}
+use Rattle.ber.specs.declared.tlv.Body.{Constructed, Row_of-Tlv, end_of-Tlv, more_of-Tlv, items-the_row-Tlv, items_hidden-the_row-Tlv-0}
 
 abbrev pub joined : Elements → Elements → Elements
 joined none es = es

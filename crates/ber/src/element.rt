@@ -13,6 +13,7 @@ use crate::refusal::BerRefusal;
 use crate::tlv::Tlv;
 use std::alloc::Global;
 
+// The element at the front, and that memory holds the octets.
 #[tactic(auto, unfolding(crate::specs::Reading::element_at))]
 fn front<G: Grammar>(alloc: Global, grammar: G, bytes: &[u8]) -> Result<(Tlv, usize), BerRefusal>
     ensures exact { Gives (λ x. (element x.0, x.1)) result (element_at G.rules grammar bytes.now) }

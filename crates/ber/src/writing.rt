@@ -9,6 +9,7 @@ use crate::tlv::{Body, Tlv};
 use std::alloc::{AllocError, Global};
 use units::{List, OutOfMemory};
 
+// How many octets a number takes.
 fn octet_count(n: u64) -> usize
     ensures count { result ≡ octet_count n }
     ensures bound { result ≤ 8 }
@@ -32,6 +33,7 @@ fn octet_count(n: u64) -> usize
     }
 }
 
+// Adds the shortest octets of a definite length.
 fn put_length(out: &mut Vec<u8>, n: u64) -> Result<(), AllocError>
     ensures { OnOk result (out.new.items ≡ out.old.items ++ length_octets n) }
 {
@@ -47,6 +49,7 @@ fn put_length(out: &mut Vec<u8>, n: u64) -> Result<(), AllocError>
     Ok(())
 }
 
+// Adds a number from 31 on in base 128.
 fn put_high(out: &mut Vec<u8>, n: u32) -> Result<(), AllocError>
     ensures { OnOk result (out.new.items ≡ out.old.items ++ high_octets n) }
 {
@@ -69,6 +72,7 @@ fn put_high(out: &mut Vec<u8>, n: u32) -> Result<(), AllocError>
     Ok(())
 }
 
+// Adds the identifier octets.
 fn put_tag(out: &mut Vec<u8>, tag: &Tag) -> Result<(), AllocError>
     ensures { OnOk result (out.new.items ≡ out.old.items ++ identifier tag.now) }
 {
@@ -82,6 +86,7 @@ fn put_tag(out: &mut Vec<u8>, tag: &Tag) -> Result<(), AllocError>
     put_high(out, tag.number)
 }
 
+// Adds an element with these contents.
 fn put_element(out: &mut Vec<u8>, tag: &Tag, contents: &[u8]) -> Result<(), AllocError>
     ensures { OnOk result (out.new.items ≡ out.old.items ++ (identifier tag.now ++ (length_octets (length contents.now) ++ contents.now))) }
 {
@@ -91,6 +96,7 @@ fn put_element(out: &mut Vec<u8>, tag: &Tag, contents: &[u8]) -> Result<(), Allo
     Ok(())
 }
 
+// Adds the octets of an element.
 fn put(alloc: Global, out: &mut Vec<u8>, tlv: &Tlv) -> Result<(), AllocError>
     ensures { OnOk result (out.new.items ≡ out.old.items ++ written (element tlv.now)) }
 {

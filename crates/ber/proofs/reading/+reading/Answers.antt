@@ -1,8 +1,7 @@
-use Rattle.std.proofs.Common.{◌≡◌, ◌+◌, ◌-◌, ◌*◌, ◌≤◌, ◌∷◌, [], length, ap, ◌∙◌, sym, arith}
+use Rattle.std.proofs.Common.{◌∙◌, sym, arith}
 use Rattle.std.proofs.lemmas.Result.{err_from_is_err_and}
-use Rattle.ber.specs.Element.{elements, element}
-use Rattle.ber.specs.Reading.{items_with, inside_at}
-use Rattle.ber.proofs.Turns.{with_none, elements-push, ended, closed, not_closed, cut_off, at_item, goes_on, fails, out_of_turns, definite_fails, definite_is, no_some}
+use Rattle.ber.specs.Element.{elements}
+use Rattle.ber.proofs.Turns.{elements-push, ended, closed, not_closed, cut_off, at_item, goes_on, fails, definite_fails, definite_is, no_some}
 use Rattle.ber.proofs.reading.+reading.Goals as goal
 
 pub inside-returns-in_err-inner-in-Some-length-clause-exact : goal.inside-returns-in_err-inner-in-Some-length-clause-exact

@@ -1,4 +1,4 @@
-use Rattle.std.proofs.Common.{◌≡◌, ap, sym, ◌∙◌}
+use Rattle.std.proofs.Common.{ap, sym, ◌∙◌}
 use Rattle.ber.specs.declared.tlv.Body.{Body}
 use Rattle.ber.specs.Element.{inner_of, element_of}
 use Rattle.ber.proofs.Turns.{element-constructed}
