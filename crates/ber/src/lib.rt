@@ -1,0 +1,26 @@
+//! Elements of X.690: octets read under a grammar, and written in the one shortest way.
+#![tactic(auto)]
+
+mod anything;
+mod element;
+mod grammar;
+mod identifier;
+mod length;
+mod reading;
+mod refusal;
+mod tag;
+mod tlv;
+mod writing;
+
+pub use element::{prefix_free, read, read_tlv};
+pub use grammar::{Grammar, Step};
+pub use length::value;
+pub use refusal::BerRefusal;
+pub use tag::Tag;
+pub use tlv::{Body, Tlv, constructed, primitive};
+pub use writing::write_tlv;
+
+#[cfg(test)]
+mod cases;
+#[cfg(test)]
+mod tests;

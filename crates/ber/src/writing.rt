@@ -1,0 +1,136 @@
+ghost use Rattle.std.specs.Prelude.{◌≡◌, ◌++◌, ◌<◌, ◌≤◌, ◌^◌, length, Ok, OnOk, IfOk, List, ℕ};
+ghost use Rattle.ber.specs.Element.{element};
+ghost use Rattle.ber.specs.Spelling.{Spells};
+ghost use Rattle.ber.specs.Anything.{first_element};
+ghost use Rattle.ber.specs.Written.{octet_count, length_octets, high_octets, identifier, written, IsBounded};
+
+use crate::tag::Tag;
+use crate::tlv::{Body, Tlv};
+use std::alloc::{AllocError, Global};
+use units::{List, OutOfMemory};
+
+// How many octets a number takes.
+fn octet_count(n: u64) -> usize
+    ensures count { result ≡ octet_count n }
+    ensures bound { result ≤ 8 }
+{
+    if n < 1 << 8 {
+        1
+    } else if n < 1 << 16 {
+        2
+    } else if n < 1 << 24 {
+        3
+    } else if n < 1 << 32 {
+        4
+    } else if n < 1 << 40 {
+        5
+    } else if n < 1 << 48 {
+        6
+    } else if n < 1 << 56 {
+        7
+    } else {
+        8
+    }
+}
+
+// Adds the shortest octets of a definite length.
+fn put_length(out: &mut Vec<u8>, n: u64) -> Result<(), AllocError>
+    ensures { OnOk result (out.new.items ≡ out.old.items ++ length_octets n) }
+{
+    if n < 128 {
+        out.push(n as u8)?;
+        return Ok(());
+    }
+    let count = octet_count(n);
+    out.push(128 + count as u8)?;
+    let octets = n.to_be_bytes();
+    let (_, last) = octets.split_at(8 - count);
+    out.extend_from_slice(last)?;
+    Ok(())
+}
+
+// Adds a number from 31 on in base 128.
+fn put_high(out: &mut Vec<u8>, n: u32) -> Result<(), AllocError>
+    ensures { OnOk result (out.new.items ≡ out.old.items ++ high_octets n) }
+{
+    let last = (n % 128) as u8;
+    let second = 128 + (n / 128 % 128) as u8;
+    let third = 128 + (n / 16384 % 128) as u8;
+    let fourth = 128 + (n / 2097152 % 128) as u8;
+    let fifth = 128 + (n / 268435456) as u8;
+    if n < 1 << 7 {
+        out.extend_from_slice(&[last])?;
+    } else if n < 1 << 14 {
+        out.extend_from_slice(&[second, last])?;
+    } else if n < 1 << 21 {
+        out.extend_from_slice(&[third, second, last])?;
+    } else if n < 1 << 28 {
+        out.extend_from_slice(&[fourth, third, second, last])?;
+    } else {
+        out.extend_from_slice(&[fifth, fourth, third, second, last])?;
+    }
+    Ok(())
+}
+
+// Adds the identifier octets.
+fn put_tag(out: &mut Vec<u8>, tag: &Tag) -> Result<(), AllocError>
+    ensures { OnOk result (out.new.items ≡ out.old.items ++ identifier tag.now) }
+{
+    let form = if tag.constructed { 32 } else { 0 };
+    let first = tag.class % 4 * 64 + form;
+    if tag.number < 31 {
+        out.push(first + tag.number as u8)?;
+        return Ok(());
+    }
+    out.push(first + 31)?;
+    put_high(out, tag.number)
+}
+
+// Adds an element with these contents.
+fn put_element(out: &mut Vec<u8>, tag: &Tag, contents: &[u8]) -> Result<(), AllocError>
+    ensures { OnOk result (out.new.items ≡ out.old.items ++ (identifier tag.now ++ (length_octets (length contents.now) ++ contents.now))) }
+{
+    put_tag(out, tag)?;
+    put_length(out, contents.len() as u64)?;
+    out.extend_from_slice(contents)?;
+    Ok(())
+}
+
+// Adds the octets of an element.
+fn put(alloc: Global, out: &mut Vec<u8>, tlv: &Tlv) -> Result<(), AllocError>
+    ensures { OnOk result (out.new.items ≡ out.old.items ++ written (element tlv.now)) }
+{
+    let tag = tlv.tag();
+    match &tlv.body {
+        Body::Primitive(contents) => put_element(out, &tag, contents.as_slice()),
+        Body::Constructed(inner) => {
+            let mut contents = Vec::new(alloc);
+            for child in inner.as_slice() {
+                put(alloc, &mut contents, child)?;
+            }
+            put_element(out, &tag, contents.as_slice())
+        }
+    }
+}
+
+// The octets, and that memory holds them.
+fn octets(alloc: Global, tlv: &Tlv) -> Result<List<u8>, OutOfMemory>
+    ensures written { IfOk result (λ bytes. bytes ≡ written (element tlv.now)) }
+    ensures bound { IfOk result (λ bytes. length bytes < 2 ^ 63) }
+{
+    let mut out = Vec::new(alloc);
+    put(alloc, &mut out, tlv)?;
+    let _length = out.as_slice().len();
+    Ok(List::from_vec(out))
+}
+
+/// The octets of an element with definite lengths and the fewest octets (X.690 8.1, 10.1).
+pub fn write_tlv(alloc: Global, tlv: &Tlv) -> Result<List<u8>, OutOfMemory>
+    ensures written { IfOk result (λ bytes. bytes ≡ written (element tlv.now)) }
+    // An element within the bounds on tags and depth is spelled so.
+    ensures spells { IsBounded 16 (element tlv.now) → IfOk result (λ bytes. Spells 16 bytes (element tlv.now)) }
+    // It is read back, whatever follows.
+    ensures reads_back { IsBounded 16 (element tlv.now) → IfOk result (λ bytes. (rest : List ℕ) → length (bytes ++ rest) < 2 ^ 63 → first_element (bytes ++ rest) ≡ Ok (element tlv.now, length bytes)) }
+{
+    octets(alloc, tlv)
+}
