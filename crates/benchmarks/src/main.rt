@@ -3,13 +3,17 @@
 
 mod account_turns;
 mod draws;
+mod element_turns;
 mod message_turns;
 mod moment_turns;
+mod quota_turns;
 mod rating_turns;
 
 use crate::account_turns::charges;
+use crate::element_turns::{passed_records, read_records};
 use crate::message_turns::{parsed_values, printed_values, read_requests, written_replies};
 use crate::moment_turns::{copied_texts, read_texts, written_texts};
+use crate::quota_turns::turns_of_use;
 use crate::rating_turns::prices;
 use rows::number;
 use std::alloc::Global;
@@ -57,6 +61,9 @@ fn checksum(alloc: Global, call: &str, numbers: &[u64]) -> Result<Option<u64>, O
         ("accounts", [sessions, groups, active, turns]) => {
             charges(alloc, *sessions, *groups, *active, *turns).map(Some)
         }
+        ("ber-read", [count]) => Ok(Some(read_records(alloc, *count)?)),
+        ("ber-pass", [count]) => Ok(Some(passed_records(alloc, *count)?)),
+        ("quotas", [turns]) => Ok(Some(turns_of_use(alloc, *turns))),
         ("moments-read", [turns]) => Ok(Some(read_texts(*turns))),
         ("moments-write", [turns]) => Ok(Some(written_texts(*turns))),
         ("moments-copy", [turns]) => Ok(Some(copied_texts(*turns))),
