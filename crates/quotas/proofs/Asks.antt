@@ -11,7 +11,8 @@ use Rattle.quotas.specs.Effect.{sets_wish, wants_quota}
 use Rattle.quotas.specs.Quota.{is_asked}
 use Rattle.quotas.specs.Laws.{AsksByTheList}
 use Rattle.quotas.specs.declared.step.Step.{Step}
-use Rattle.quotas.specs.Steps.{quota_after, since_freezing, may_wish, is_answer}
+use Rattle.quotas.specs.Steps.{quota_after, since_freezing}
+use Rattle.quotas.specs.History.{may_wish, is_answer}
 use Rattle.quotas.specs.declared.step.Step.TheVariants.{Asked, Frozen, Continued, Shut, Answered, Used, Fired}
 
 either : (a b c : Bool) → (a ≡ true → c ≡ true) → (b ≡ true → c ≡ true) → (a || b) ≡ true → c ≡ true

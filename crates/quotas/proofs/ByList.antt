@@ -9,12 +9,14 @@ use Rattle.quotas.specs.declared.state.Gate.TheVariants.{Passing, Waiting, Close
 use Rattle.quotas.specs.declared.standing.Standing.{Standing}
 use Rattle.quotas.specs.declared.standing.Terms.{Terms}
 use Rattle.quotas.specs.declared.standing.Standing.TheVariants.{Nothing, Granted, Unlimited, Denied, Spent, Free}
-use Rattle.quotas.specs.Standing.{left_of, gate_at}
+use Rattle.quotas.specs.Standing.{left_of}
+use Rattle.quotas.specs.Gate.{gate_at}
 use Rattle.quotas.specs.Quota.{capped, is_asked}
 use Rattle.quotas.specs.Due.{on_terms, first_due}
 use Rattle.quotas.specs.Laws.{Fits, FitsGranted, DueByTheList}
 use Rattle.quotas.specs.declared.step.Step.{Step}
-use Rattle.quotas.specs.Steps.{quota_after, octets_used, seconds_used}
+use Rattle.quotas.specs.Steps.{quota_after}
+use Rattle.quotas.specs.History.{octets_used, seconds_used}
 use Rattle.quotas.proofs.Sums.{sums}
 
 -- what is left of an amount is the same whether the sum stands still at its type's end

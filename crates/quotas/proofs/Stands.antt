@@ -15,7 +15,8 @@ use Rattle.quotas.specs.Standing.{without, spent, spent_by, left_of, set_by, gra
 use Rattle.quotas.specs.Effect.{returns_quota, standing_after}
 use Rattle.quotas.specs.Laws.{TermsAreLatest, StandsByTheList, LeavesAction}
 use Rattle.quotas.specs.declared.step.Step.{Step}
-use Rattle.quotas.specs.Steps.{quota_after, latest_set, unchanged_set}
+use Rattle.quotas.specs.Steps.{quota_after}
+use Rattle.quotas.specs.History.{latest_set, unchanged_set}
 use Rattle.quotas.specs.declared.step.Step.TheVariants.{Asked, Frozen, Continued, Shut, Answered, Used, Fired}
 
 spent_from : (last : Option Action) (t u : Terms) → spent_by last t ≡ Granted u → Granted t ≡ Granted u

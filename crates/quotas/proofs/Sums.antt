@@ -6,7 +6,8 @@ use Rattle.quotas.specs.Quota.{capped}
 use Rattle.quotas.specs.Effect.{returns_quota}
 use Rattle.quotas.specs.Laws.{IsOfTheList}
 use Rattle.quotas.specs.declared.step.Step.{Step}
-use Rattle.quotas.specs.Steps.{since_set, since_freezing, octets_in, seconds_in}
+use Rattle.quotas.specs.Steps.{since_set, since_freezing}
+use Rattle.quotas.specs.History.{octets_in, seconds_in}
 use Rattle.quotas.specs.declared.step.Step.TheVariants.{Asked, Frozen, Continued, Shut, Answered, Used, Fired}
 
 -- a step adds its number to the sum

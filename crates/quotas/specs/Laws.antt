@@ -13,7 +13,8 @@ use Rattle.quotas.specs.declared.standing.Standing.TheVariants.{Granted, Unlimit
 use Rattle.quotas.specs.Quota.{Quota, is_asked, fired, capped, gate_of}
 use Rattle.quotas.specs.Due.{due_of}
 use Rattle.quotas.specs.declared.step.Step.{Step}
-use Rattle.quotas.specs.Steps.{quota_after, since_freezing, octets_in, seconds_in, octets_used, seconds_used, latest_use, latest_set, unchanged_set, may_wish, is_answer, is_return, is_shut}
+use Rattle.quotas.specs.Steps.{quota_after, since_freezing}
+use Rattle.quotas.specs.History.{octets_in, seconds_in, octets_used, seconds_used, latest_use, latest_set, unchanged_set, may_wish, is_answer, is_return, is_shut}
 use Rattle.quotas.specs.declared.step.Step.TheVariants.{Answered}
 
 -- the use is the sum over the reports since the freezing of the request whose answer set the group, and over those since the

@@ -7,7 +7,8 @@ use Rattle.quotas.specs.declared.state.Gate.TheVariants.{Closed}
 use Rattle.quotas.specs.declared.standing.Terms.{Terms}
 use Rattle.quotas.specs.declared.standing.Standing.{Standing}
 use Rattle.quotas.specs.declared.standing.Standing.TheVariants.{Nothing}
-use Rattle.quotas.specs.Standing.{left_of, set_by, is_unlimited, is_free, gate_at, without}
+use Rattle.quotas.specs.Standing.{left_of, set_by, is_unlimited, is_free, without}
+use Rattle.quotas.specs.Gate.{gate_at}
 use Rattle.quotas.specs.Effect.{sets_wish, returns_quota, standing_after}
 
 -- standing: what the group may use; wish: a wish that no request carried yet; carried: the unanswered request carries one;

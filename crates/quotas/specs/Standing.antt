@@ -1,4 +1,4 @@
--- What a rating group may use: what an answer sets, what is left of it, and the gate (TS 32.290, quota management; 32.291, MultipleUnitInformation).
+-- What a rating group may use: what an answer sets, what is left of it, and what ends it (TS 32.290, quota management; 32.291, MultipleUnitInformation).
 use Rattle.std.specs.Prelude.{ℕ, ◌-◌, ◌==◌, Bool, true, false, if◌then◌else◌, Option, Some, None, unwrap_or}
 use Rattle.units.specs.declared.answer.UnitInfo.{UnitInfo}
 use Rattle.units.specs.declared.answer.Code.{Code}
@@ -6,11 +6,8 @@ use Rattle.units.specs.declared.answer.Code.TheVariants.{Success, Denied as EndU
 use Rattle.units.specs.declared.answer.Amount.{Amount}
 use Rattle.units.specs.declared.answer.Amount.TheVariants.{Volume, Seconds}
 use Rattle.units.specs.declared.answer.Action.{Action}
-use Rattle.units.specs.declared.answer.Action.TheVariants.{Terminate, Redirect as RedirectTraffic, RestrictAccess}
 use Rattle.quotas.specs.declared.state.State.{State}
 use Rattle.quotas.specs.declared.state.State.TheVariants as states
-use Rattle.quotas.specs.declared.state.Gate.{Gate}
-use Rattle.quotas.specs.declared.state.Gate.TheVariants.{Passing, Waiting, Closed, Redirect, Restrict}
 use Rattle.quotas.specs.declared.standing.Terms.{Terms}
 use Rattle.quotas.specs.declared.standing.Standing.{Standing}
 use Rattle.quotas.specs.declared.standing.Standing.TheVariants.{Nothing, Granted, Unlimited, Denied, Spent, Free}
@@ -65,17 +62,6 @@ is_unlimited other = false
 abbrev pub is_free : Standing → Bool
 is_free Free = true
 is_free other = false
-
--- the gate after this use, while the session lives: granted units pass until they are used up (TS 32.290, quota management), and last units end by their action (TS 32.291, FinalUnitAction)
-abbrev pub gate_at : Standing → ℕ → ℕ → Gate
-gate_at Nothing octets seconds = Waiting
-gate_at (Granted terms) octets seconds = if left_of terms.amount octets seconds == 0 then Waiting else Passing
-gate_at Unlimited octets seconds = Passing
-gate_at Denied octets seconds = Closed
-gate_at (Spent Terminate) octets seconds = Closed
-gate_at (Spent RedirectTraffic) octets seconds = Redirect
-gate_at (Spent RestrictAccess) octets seconds = Restrict
-gate_at Free octets seconds = Passing
 
 -- without a CHF: each group that is not unlimited and has no use left goes on free of quota (failure handling CONTINUE of TS 32.290)
 abbrev pub without : Standing → ℕ → ℕ → Standing

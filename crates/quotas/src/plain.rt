@@ -1,6 +1,7 @@
 ghost use Rattle.std.specs.Prelude.{◌≡◌, sum_by};
 ghost use Rattle.quotas.specs.Quota.{capped};
-ghost use Rattle.quotas.specs.Steps.{since_freezing, octets_in, seconds_in, octets_used, seconds_used, latest_use, latest_set};
+ghost use Rattle.quotas.specs.Steps.{since_freezing};
+ghost use Rattle.quotas.specs.History.{octets_in, seconds_in, octets_used, seconds_used, latest_use, latest_set};
 
 use crate::standing::{Standing, standing_from};
 use crate::step::Step;

@@ -1,5 +1,6 @@
 ghost use Rattle.std.specs.Prelude.{◌≡◌};
-ghost use Rattle.quotas.specs.Standing.{gate_at, granted_by, left_of, set_by, spent, state_of, terms_of, without};
+ghost use Rattle.quotas.specs.Standing.{granted_by, left_of, set_by, spent, state_of, terms_of, without};
+ghost use Rattle.quotas.specs.Gate.{gate_at};
 
 use crate::state::{Gate, State};
 use units::{Action, Amount, Code, Moment, UnitInfo};
