@@ -69,7 +69,8 @@ fn items<G: Grammar>(
     ensures exact { Gives (λ x. (elements x.0, x.1.now)) result (items_with G.rules (inside_at G.rules levels) (length bytes.now + 1) definite state around place bytes.now) }
     ensures rest { IfOk result (λ x. length x.1.now ≤ length bytes.now) }
 {
-    let mut found = Vec::new(alloc);
+    // An element takes two octets at least; most constructed ones have at most 16 in them.
+    let mut found = Vec::with_capacity(alloc, (bytes.len() / 2).min(16))?;
     let mut state = state;
     let mut at = place;
     let mut rest = bytes;

@@ -26,7 +26,7 @@ items-returns-then-is_empty-clause-exact g t c =
 
 pub items-returns-in_err-next-clause-exact : goal.items-returns-in_err-next-clause-exact
 items-returns-in_err-next-clause-exact g t c =
-    let p = err_from_is_err_and c.from_residual.result c.from_residual.ensures.1 in
+    let p = err_from_is_err_and c.from_residual-in_err-next.result c.from_residual-in_err-next.ensures.1 in
     let so_far = at_item _ _ _ _ _ _ _ _ _ _ _ c.loop-test.true (sym c.end.ensures ∙ no_some _ _ c.in_default.not-Some) (sym c.if-is_empty.ensures) c.loop.invariant.read in
     rw (p.1, p.2) (fails _ _ _ _ _ _ _ _ _ _ _ c.in_err-next.ensures.exact so_far)
 
