@@ -39,8 +39,18 @@ pub fn read_records(alloc: Global, count: u64) -> Result<u64, AllocError> {
     Ok(at as u64)
 }
 
-/// Passes over the octets of that many records once, and sums them up.
-pub fn passed_records(alloc: Global, count: u64) -> Result<u64, AllocError> {
+/// Passes over the octets of that many records once, each octet after the one before it, and answers a hash of them.
+pub fn hashed_records(alloc: Global, count: u64) -> Result<u64, AllocError> {
+    let bytes = records(alloc, count)?;
+    let mut hash = 0u64;
+    for byte in &bytes {
+        hash = hash.wrapping_mul(31).wrapping_add(u64::from(*byte));
+    }
+    Ok(hash)
+}
+
+/// Sums up the octets of that many records, many at a time where the processor can.
+pub fn summed_records(alloc: Global, count: u64) -> Result<u64, AllocError> {
     let bytes = records(alloc, count)?;
     let mut sum = 0u64;
     for byte in &bytes {

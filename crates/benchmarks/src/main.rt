@@ -10,7 +10,7 @@ mod quota_turns;
 mod rating_turns;
 
 use crate::account_turns::charges;
-use crate::element_turns::{passed_records, read_records};
+use crate::element_turns::{hashed_records, read_records, summed_records};
 use crate::message_turns::{parsed_values, printed_values, read_requests, written_replies};
 use crate::moment_turns::{copied_texts, read_texts, written_texts};
 use crate::quota_turns::turns_of_use;
@@ -62,7 +62,8 @@ fn checksum(alloc: Global, call: &str, numbers: &[u64]) -> Result<Option<u64>, O
             charges(alloc, *sessions, *groups, *active, *turns).map(Some)
         }
         ("ber-read", [count]) => Ok(Some(read_records(alloc, *count)?)),
-        ("ber-pass", [count]) => Ok(Some(passed_records(alloc, *count)?)),
+        ("ber-hash", [count]) => Ok(Some(hashed_records(alloc, *count)?)),
+        ("ber-sum", [count]) => Ok(Some(summed_records(alloc, *count)?)),
         ("quotas", [turns]) => Ok(Some(turns_of_use(alloc, *turns))),
         ("moments-read", [turns]) => Ok(Some(read_texts(*turns))),
         ("moments-write", [turns]) => Ok(Some(written_texts(*turns))),
