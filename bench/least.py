@@ -2,11 +2,14 @@
 import os, subprocess, sys
 
 count, command = int(sys.argv[1]), sys.argv[2:]
-best = None
-for _ in range(count):
-    before = os.times()
-    subprocess.run(command, stdout=subprocess.DEVNULL, check=True)
-    after = os.times()
-    took = after.children_user + after.children_system - before.children_user - before.children_system
-    best = took if best is None or took < best else best
-print(f"{best:.3f}")
+
+
+def seconds():
+    run = subprocess.Popen(command, stdout=subprocess.DEVNULL)
+    _, status, used = os.wait4(run.pid, 0)
+    if status != 0:
+        sys.exit(f"{' '.join(command)}: exit status {os.waitstatus_to_exitcode(status)}")
+    return used.ru_utime + used.ru_stime
+
+
+print(f"{min(seconds() for _ in range(count)):.4f}")
