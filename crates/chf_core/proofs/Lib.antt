@@ -1,0 +1,9 @@
+pub mod Places
+pub mod Fresh
+pub mod Named
+pub mod Results
+pub mod Admitted
+pub mod Walks
+pub mod Clear
+pub mod Granting
+pub mod Owned

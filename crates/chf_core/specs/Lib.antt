@@ -1,0 +1,9 @@
+pub mod Operator
+pub mod Sessions
+pub mod Keys
+pub mod Effect
+pub mod Money
+pub mod Decisions
+pub mod Outcomes
+pub mod Laws
+pub mod Admits

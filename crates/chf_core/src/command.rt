@@ -1,0 +1,53 @@
+use crate::setup::ChfSetup;
+use units::{List, Moment, Plain, Reply, Request, Text};
+
+/// What a charging function is told (charging data requests: TS 32.290, 5.3.2; the operator's commands are this product's own).
+#[derive(Clone, PartialEq, Eq, Debug, Drop)]
+pub enum Command {
+    /// The setup, before all others.
+    Setup {
+        setup: ChfSetup,
+    },
+    /// A charging data request.
+    Charge {
+        request: Request,
+    },
+    /// A subscriber, the name of its account and the rating groups that are barred for it.
+    Subscriber {
+        supi: Text,
+        account: Text,
+        barred: List<u32>,
+    },
+    /// A top-up of an account, told apart by its id; 1 to 2^80 grains.
+    TopUp {
+        id: Text,
+        account: Text,
+        amount: u128,
+    },
+    /// The time has come to this moment: quotas whose deadline has passed are given back.
+    Expire {
+        moment: Moment,
+    },
+}
+
+/// What a command comes to (this product's own).
+#[derive(Clone, PartialEq, Eq, Debug, Drop)]
+pub enum Outcome {
+    /// The reply to a charging data request.
+    Charged(Reply),
+    /// An operator's command was carried out.
+    Done,
+    /// An operator's command changes nothing.
+    Known,
+}
+
+impl Plain for Command {
+    ghost use Rattle.std.proofs.Common.{rules};
+    ghost use Rattle.chf_core.specs.contracts.setup.ChfSetupPlain.TheImpl.Laws as setup;
+    ghost use Rattle.units.specs.contracts.request.RequestPlain.TheImpl.Laws as request;
+    ghost use Rattle.units.specs.contracts.moment.MomentPlain.TheImpl.Laws as moment;
+
+    ghost copies = { Prim.search (rules, setup.copies-law, request.copies-law, moment.copies-law) };
+
+    ghost decides = { Prim.search (rules, setup.decides-law, request.decides-law, moment.decides-law) };
+}

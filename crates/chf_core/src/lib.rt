@@ -1,0 +1,31 @@
+//! The charging function's machine: commands, what is decided on each, and what is kept of them.
+#![tactic(auto)]
+
+mod asks;
+mod command;
+mod decision;
+mod effect;
+mod give_back;
+mod grants;
+mod key;
+mod laws;
+#[cfg(test)]
+mod plain;
+#[cfg(test)]
+mod plain_accounts;
+#[cfg(test)]
+mod plain_decision;
+mod refusal;
+mod session;
+mod setup;
+mod subscription;
+mod target;
+
+pub use command::{Command, Outcome};
+pub use decision::{Decision, Plan};
+pub use laws::replies_stand;
+pub use refusal::ChfRefusal;
+pub use setup::ChfSetup;
+
+#[cfg(test)]
+mod tests;

@@ -1,0 +1,16 @@
+/// Why a command is refused (this product's own; causes of charging data requests after TS 32.291, 6.1.7).
+#[derive(Clone, Copy, PartialEq, Eq, Debug)]
+pub enum ChfRefusal {
+    /// E15: no account has this name.
+    UnknownAccount,
+    /// E28: the session of a Create exists.
+    SessionExists,
+    /// E29: the session was released; `last` is its last accepted number.
+    SessionClosed { last: u32 },
+    /// E30: the number is at most the session's last accepted one, or stands with other content; `last` is that number, 0 without a session.
+    SequencePassed { last: u32 },
+    /// E31: no session of this consumer has the reference.
+    UnknownReference,
+    /// E36: the top-up's id stands with another account or amount.
+    TopUpDiffers,
+}

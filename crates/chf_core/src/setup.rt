@@ -1,0 +1,22 @@
+use rating::Tariffs;
+use units::Plain;
+
+/// What the operator sets up before anything is charged (this product's own).
+#[derive(Clone, PartialEq, Eq, Debug, Drop)]
+pub struct ChfSetup {
+    /// The tariffs of all rating groups.
+    pub tariffs: Tariffs,
+    /// How many seconds after its validity time a quota is given back, at most 604,800.
+    pub grace: u32,
+    /// Whether session failover is supported (TS 32.291, 6.1.6.2.1.6).
+    pub failover: bool,
+}
+
+impl Plain for ChfSetup {
+    ghost use Rattle.std.proofs.Common.{rules};
+    ghost use Rattle.rating.specs.contracts.tariffs.TariffsPlain.TheImpl.Laws as tariffs;
+
+    ghost copies = { Prim.search (rules, tariffs.copies-law) };
+
+    ghost decides = { λ a b. let rates = tariffs.decides-law a.tariffs b.tariffs in Prim.search rules };
+}

@@ -1,0 +1,15 @@
+use units::{List, Text};
+
+/// A subscriber: the name of its account and the rating groups that are barred.
+#[derive(Clone, Debug, Drop)]
+pub(crate) struct Subscription {
+    pub(crate) account: Text,
+    pub(crate) barred: List<u32>,
+}
+
+/// A top-up: the name of its account and the amount.
+#[derive(Clone, Debug, Drop)]
+pub(crate) struct Sum {
+    pub(crate) account: Text,
+    pub(crate) amount: u128,
+}
