@@ -15,6 +15,8 @@ mod plain;
 mod plain_accounts;
 #[cfg(test)]
 mod plain_decision;
+#[cfg(test)]
+mod plain_keys;
 mod refusal;
 mod session;
 mod setup;

@@ -1,15 +1,13 @@
-//! The decisions once more, plainly and slowly: each question walks the list of commands, which has its newest first.
+//! What a list of commands stands for, plainly and slowly: each question walks the list, which has its newest first.
 ghost use Rattle.std.specs.Prelude.{◌≡◌, ◌≤◌, ◌<◌, ◌^◌, ◌-◌, ◌+◌, ◌&&◌, OnOk, IfOk, Some, length, option_copied};
 ghost use Rattle.chf_core.specs.Operator.{setup_of, subscription_of, account_names, account_number, account_of, topup_of, name_eq};
-ghost use Rattle.chf_core.specs.Keys.{key_of, key_in, key, is_key, place_of, command_at, is_repeat};
 ghost use Rattle.chf_core.specs.Sessions.{sessions, sessions_after, account_for, by_reference, write_session, with_last, opened, reference_of, session_at, named_by, same_session, opens_by, name, id_of, supi_of};
 
 use crate::command::Command;
-use crate::key::{Key, Name};
+use crate::key::Name;
 use crate::session::Session;
 use crate::setup::ChfSetup;
 use crate::subscription::{Subscription, Sum};
-use sessions::same_content;
 use std::alloc::Global;
 use units::{Operation, OutOfMemory, Request, Text, copy};
 
@@ -128,7 +126,7 @@ pub fn account_for(commands: &[Command], request: &Request) -> Result<Option<u32
     }
 }
 
-fn id_of(id: Option<u32>) -> u32
+pub fn id_of(id: Option<u32>) -> u32
     ensures { result ≡ id_of id }
 {
     match id {
@@ -321,95 +319,5 @@ pub fn named(
         }
         Operation::Update(reference) => session_at(alloc, commands, reference),
         Operation::Release(reference) => session_at(alloc, commands, reference),
-    }
-}
-
-fn key_with(request: &Request, charging_id: u32) -> Result<Key, OutOfMemory>
-    ensures { IfOk result (λ k. k ≡ key request.now.consumer charging_id request.now.number) }
-{
-    Ok(Key {
-        session: Name {
-            consumer: copy(&request.consumer)?,
-            charging_id,
-        },
-        number: request.number,
-    })
-}
-
-fn key_in(request: &Request, session: Option<Session>) -> Result<Option<Key>, OutOfMemory>
-    ensures { IfOk result (λ k. k ≡ key_in request.now session) }
-{
-    match session {
-        Some(s) => if s.consumer == request.consumer {
-            Ok(Some(key_with(request, s.charging_id)?))
-        } else {
-            Ok(None)
-        },
-        None => Ok(None),
-    }
-}
-
-pub fn key_of(
-    alloc: Global,
-    commands: &[Command],
-    request: &Request,
-) -> Result<Option<Key>, OutOfMemory>
-    requires { length commands.now < 2 ^ 32 }
-    ensures { IfOk result (λ k. k ≡ key_of commands.now request.now) }
-{
-    match request.operation {
-        Operation::Create => Ok(Some(key_with(request, id_of(request.charging_id))?)),
-        Operation::Update(reference) => key_in(request, session_at(alloc, commands, reference)?),
-        Operation::Release(reference) => key_in(request, session_at(alloc, commands, reference)?),
-    }
-}
-
-fn is_key(own: Option<Key>, k: &Key) -> bool
-    ensures { result ≡ is_key own k.now }
-{
-    match own {
-        Some(j) => j.session.consumer == k.session.consumer
-            && j.session.charging_id == k.session.charging_id
-            && j.number == k.number,
-        None => false,
-    }
-}
-
-pub fn place_of(alloc: Global, commands: &[Command], k: &Key) -> Result<Option<u32>, OutOfMemory>
-    requires { length commands.now < 2 ^ 32 }
-    ensures { IfOk result (λ p. p ≡ place_of commands.now k.now) }
-{
-    match commands {
-        [Command::Charge { request }, before @ ..] => {
-            if is_key(key_of(alloc, before, request)?, k) {
-                Ok(Some(before.len() as u32))
-            } else {
-                place_of(alloc, before, k)
-            }
-        }
-        [_, before @ ..] => place_of(alloc, before, k),
-        [] => Ok(None),
-    }
-}
-
-pub fn command_at(commands: &[Command], place: u32) -> Option<&Command>
-    ensures { option_copied result ≡ command_at commands.now place }
-{
-    match commands {
-        [command, before @ ..] => if before.len() == place as usize {
-            Some(command)
-        } else {
-            command_at(before, place)
-        },
-        [] => None,
-    }
-}
-
-pub fn is_repeat(request: &Request, command: &Command) -> bool
-    ensures { result ≡ is_repeat request.now (Some command.now) }
-{
-    match command {
-        Command::Charge { request: kept } => same_content(kept, request),
-        _ => false,
     }
 }

@@ -18,10 +18,11 @@ use crate::give_back::release;
 use crate::grants::{free_of, grant_for, info_for, reserve_one};
 use crate::key::Key;
 use crate::plain::{
-    account_for, account_number, all_sessions, command_at, is_repeat, key_of, named,
-    next_reference, place_of, setup_of, subscription_of, topup_of,
+    account_for, account_number, all_sessions, named, next_reference, setup_of, subscription_of,
+    topup_of,
 };
 use crate::plain_accounts::{barred, grace, money, prepare, rates, target_of};
+use crate::plain_keys::{command_at, is_repeat, key_of, place_of};
 use crate::refusal::ChfRefusal;
 use crate::session::Session;
 use crate::subscription::{Subscription, Sum};
