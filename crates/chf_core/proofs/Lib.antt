@@ -7,3 +7,4 @@ pub mod Walks
 pub mod Clear
 pub mod Granting
 pub mod Owned
+pub mod Keyed

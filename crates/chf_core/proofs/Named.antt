@@ -141,7 +141,7 @@ place_within (Subscriber u n b ∷ a) k i e = let h = place_within a k i e in om
 place_within (TopUp j u x ∷ a) k i e = let h = place_within a k i e in omega arith
 place_within (Expire m ∷ a) k i e = let h = place_within a k i e in omega arith
 
-both : (a b : Bool) → (a && b) ≡ true → (a ≡ true) × (b ≡ true)
+pub both : (a b : Bool) → (a && b) ≡ true → (a ≡ true) × (b ≡ true)
 both true b e = (refl, e)
 both false b e = absurd (cc)
 
@@ -157,7 +157,7 @@ same_key j k e =
     let y = both (name_eq j.session.consumer k.session.consumer) (j.session.charging_id == k.session.charging_id) x.0 in
     λ i. record { session = record { consumer = same_name j.session.consumer k.session.consumer y.0 i; charging_id = same_number j.session.charging_id k.session.charging_id y.1 i }; number = same_number j.number k.number x.1 i }
 
-kept_no : (a : List Command) (p : Request) (k : Key) (i : ℕ) (o : Outcome) → place_of a k ≡ Some i → at_key a p (Some k) ≡ Fresh o → ⊥
+pub kept_no : (a : List Command) (p : Request) (k : Key) (i : ℕ) (o : Outcome) → place_of a k ≡ Some i → at_key a p (Some k) ≡ Fresh o → ⊥
 kept_no a p k i o e f = by_repeat (is_repeat p (command_at a i)) (ap (at_place a p (named_by p.operation a p)) (sym e) ∙ f)
   where
     by_repeat : (b : Bool) → at_kept i (last_of (named_by p.operation a p)) b ≡ Fresh o → ⊥

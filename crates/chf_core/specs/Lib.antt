@@ -7,3 +7,4 @@ pub mod Decisions
 pub mod Outcomes
 pub mod Laws
 pub mod Admits
+pub mod KeptRequests

@@ -1,0 +1,36 @@
+-- The kept requests of one session in a list of commands, the newest first, and lists of which each command was fresh (TS 32.290, 5.3.2; this product's own).
+use Rattle.std.specs.Prelude.{◌≡◌, Bool, false, cond, List, [], ◌∷◌, Option, Some, None}
+use Rattle.sessions.specs.Kept.{Kept, AreKeyed}
+use Rattle.chf_core.specs.declared.key.Name.{Name}
+use Rattle.chf_core.specs.declared.key.Key.{Key}
+use Rattle.chf_core.specs.declared.command.Command.{Command}
+use Rattle.chf_core.specs.declared.command.Command.TheVariants.{Setup, Charge, Subscriber, TopUp, Expire}
+use Rattle.chf_core.specs.declared.command.Outcome.{Outcome}
+use Rattle.chf_core.specs.declared.decision.Verdict.TheVariants.{Fresh}
+use Rattle.chf_core.specs.Sessions.{same_session}
+use Rattle.chf_core.specs.Keys.{key_of}
+use Rattle.chf_core.specs.Money.{first_reply}
+use Rattle.chf_core.specs.Decisions.{decision}
+
+-- whether a request with this key is of a session
+abbrev pub is_of : Option Key → Name → Bool
+is_of None n = false
+is_of (Some k) n = same_session k.session n
+
+-- the requests of a session, each with its first reply
+abbrev pub kept_of : List Command → Name → List Kept
+kept_of [] n = []
+kept_of (Setup setup ∷ before) n = kept_of before n
+kept_of (Charge q ∷ before) n = cond (is_of (key_of before q) n) (record { request = q; reply = first_reply before q } ∷ kept_of before n) (kept_of before n)
+kept_of (Subscriber supi account barred ∷ before) n = kept_of before n
+kept_of (TopUp id account amount ∷ before) n = kept_of before n
+kept_of (Expire moment ∷ before) n = kept_of before n
+
+-- each command was fresh at its place, by the commands before it
+abbrev pub AreFresh : List Command → Type 0
+AreFresh [] = Unit {0}
+AreFresh (c ∷ before) = ((o : Outcome) × (decision before c ≡ Fresh o)) × AreFresh before
+
+-- No two kept requests of a session have one number.
+abbrev pub KeptAreKeyed : Type 0
+KeptAreKeyed = (commands : List Command) (n : Name) → AreFresh commands → AreKeyed (kept_of commands n)
