@@ -8,13 +8,17 @@ mod message_turns;
 mod moment_turns;
 mod quota_turns;
 mod rating_turns;
+mod table_turns;
 
 use crate::account_turns::charges;
 use crate::element_turns::{hashed_records, read_records, summed_records};
-use crate::message_turns::{parsed_values, printed_values, read_requests, written_replies};
+use crate::message_turns::{
+    parsed_values, printed_values, read_requests, request_size, written_replies,
+};
 use crate::moment_turns::{copied_texts, read_texts, written_texts};
 use crate::quota_turns::turns_of_use;
 use crate::rating_turns::prices;
+use crate::table_turns::table_turns;
 use rows::number;
 use std::alloc::Global;
 use std::process::ExitCode;
@@ -46,7 +50,9 @@ fn messages(
     turns: u64,
 ) -> Result<Option<u64>, OutOfMemory> {
     match call {
-        "json-read" => read_requests(alloc, entries, turns).map(Some),
+        "json-read" => read_requests(alloc, entries, 0, turns).map(Some),
+        "json-read-used" => read_requests(alloc, entries, 4, turns).map(Some),
+        "json-size-used" => request_size(alloc, entries, 4).map(Some),
         "json-parse" => parsed_values(alloc, entries, turns).map(Some),
         "json-write" => written_replies(alloc, entries, turns).map(Some),
         "json-print" => printed_values(alloc, entries, turns).map(Some),
@@ -61,6 +67,7 @@ fn checksum(alloc: Global, call: &str, numbers: &[u64]) -> Result<Option<u64>, O
         ("accounts", [sessions, groups, active, turns]) => {
             charges(alloc, *sessions, *groups, *active, *turns).map(Some)
         }
+        ("table", [keys, turns]) => table_turns(alloc, *keys, *turns).map(Some),
         ("ber-read", [count]) => Ok(Some(read_records(alloc, *count)?)),
         ("ber-hash", [count]) => Ok(Some(hashed_records(alloc, *count)?)),
         ("ber-sum", [count]) => Ok(Some(summed_records(alloc, *count)?)),

@@ -8,25 +8,61 @@ const HEAD: &str =
 
 const ENTRY: &str = "{\"ratingGroup\":10,\"requestedUnit\":{}}";
 
+const USED_ENTRY: [&str; 3] = [
+    "{\"ratingGroup\":10,\"requestedUnit\":{},\"usedUnitContainer\":[",
+    "{\"downlinkVolume\":2,\"localSequenceNumber\":1,\"pDUContainerInformation\":{\"timeofFirstUsage\":\"2026-01-02T02:04:05Z\",\"timeofLastUsage\":\"2026-01-02T02:04:05Z\"},\"time\":0,\"totalVolume\":3,\"triggerTimestamp\":\"2026-01-02T02:04:05Z\",\"triggers\":[{\"triggerCategory\":\"IMMEDIATE_REPORT\",\"triggerType\":\"QUOTA_THRESHOLD\"}],\"uplinkVolume\":1}",
+    "]}",
+];
+
 const TAIL: &str =
     "],\"nfConsumerIdentification\":{\"nFName\":\"smf1\",\"nodeFunctionality\":\"SMF\"},\"pDUSessionChargingInformation\":{\"pduSessionInformation\":{\"dnnId\":\"internet\",\"pduSessionID\":5,\"pduType\":\"IPV4\"}},\"subscriberIdentifier\":\"imsi-001010000000001\"}";
 
-// A Create with that many entries.
-fn body(alloc: Global, entries: u64) -> Result<String, AllocError> {
+// An entry of a request, with that many used unit containers.
+fn push_entry(text: &mut String, containers: u64) -> Result<(), AllocError> {
+    if containers == 0 {
+        return text.push_str(ENTRY);
+    }
+    let [begin, container, end] = USED_ENTRY;
+    text.push_str(begin)?;
+    for place in 0..containers {
+        if place > 0 {
+            text.push_str(",")?;
+        }
+        text.push_str(container)?;
+    }
+    text.push_str(end)
+}
+
+// A Create with that many entries of that many containers each.
+fn body(alloc: Global, entries: u64, containers: u64) -> Result<String, AllocError> {
     let mut text = String::from_str(alloc, HEAD)?;
     for place in 0..entries {
         if place > 0 {
             text.push_str(",")?;
         }
-        text.push_str(ENTRY)?;
+        push_entry(&mut text, containers)?;
     }
     text.push_str(TAIL)?;
     Ok(text)
 }
 
-/// Reads a Create with that many entries over and over, and counts the entries.
-pub fn read_requests(alloc: Global, entries: u64, turns: u64) -> Result<u64, OutOfMemory> {
-    let body = body(alloc, entries)?;
+/// The octets of a Create with that many entries of that many containers each, 0 where it is refused.
+pub fn request_size(alloc: Global, entries: u64, containers: u64) -> Result<u64, OutOfMemory> {
+    let body = body(alloc, entries, containers)?;
+    match read_request(alloc, Operation::Create, body.as_bytes()) {
+        Ok(_) => Ok(body.len() as u64),
+        Err(_) => Ok(0),
+    }
+}
+
+/// Reads a Create with that many entries of that many containers each over and over, and counts the entries.
+pub fn read_requests(
+    alloc: Global,
+    entries: u64,
+    containers: u64,
+    turns: u64,
+) -> Result<u64, OutOfMemory> {
+    let body = body(alloc, entries, containers)?;
     let mut sum = 0u64;
     for _ in 0..turns {
         if let Ok(request) = read_request(alloc, Operation::Create, body.as_bytes()) {
@@ -38,7 +74,7 @@ pub fn read_requests(alloc: Global, entries: u64, turns: u64) -> Result<u64, Out
 
 /// Reads the same bytes as JSON alone.
 pub fn parsed_values(alloc: Global, entries: u64, turns: u64) -> Result<u64, OutOfMemory> {
-    let body = body(alloc, entries)?;
+    let body = body(alloc, entries, 0)?;
     let mut sum = 0u64;
     for _ in 0..turns {
         if let Ok(value) = Value::from_slice(alloc, body.as_bytes()) {
