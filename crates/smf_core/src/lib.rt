@@ -2,12 +2,14 @@
 #![tactic(auto)]
 
 mod event;
+mod freeze;
 mod names;
 mod refusal;
 mod rules;
 mod session;
 mod settle;
 mod setup;
+mod traffic;
 
 pub use event::SmfEvent;
 pub use refusal::{Seen, SmfRefusal};
