@@ -1,17 +1,22 @@
 //! The machine of an SMF's charging trigger function: triggers, quotas, requests.
 #![tactic(auto)]
 
+mod answers;
+mod checks;
 mod event;
 mod freeze;
 mod names;
+mod plain;
 mod refusal;
 mod rules;
 mod session;
 mod settle;
 mod setup;
+mod step;
 mod traffic;
 
 pub use event::SmfEvent;
+pub use plain::{plain_after, plain_step};
 pub use refusal::{Seen, SmfRefusal};
 pub use session::{Entry, Holding, Layer, Life, Machine, Place, Session, Why};
 pub use setup::SmfSetup;

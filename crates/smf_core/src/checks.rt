@@ -1,0 +1,240 @@
+ghost use Rattle.std.specs.Prelude.{◌≡◌, ◌==◌, length};
+ghost use Rattle.std.specs.List.{find};
+ghost use Rattle.std.specs.Option.{option_copied};
+ghost use Rattle.smf_core.specs.Settle.{entry_of};
+ghost use Rattle.smf_core.specs.Machine.{session_of, is_live, expected_in, expected_of, gate_in, gate_for, is_served, is_full_for, start_answer, count_answer, change_answer, detach_answer, reply_answer, attach_answer, answer_of};
+
+use crate::answers::is_answer_to;
+use crate::event::SmfEvent;
+use crate::refusal::{Seen, SmfRefusal};
+use crate::session::{Entry, Life, Machine, Session};
+use crate::settle::entry_in;
+use quotas::{Gate, State};
+use units::{Moment, Reply, Report};
+
+/// A session.
+pub fn session_in(sessions: &[Session], number: u32) -> Option<&Session>
+    ensures { option_copied result ≡ session_of number sessions.now }
+{
+    for session in sessions {
+        if session.number == number {
+            return Some(session);
+        }
+    }
+    None
+}
+
+fn is_live_session(session: &Session) -> bool
+    ensures { result ≡ is_live session.now.life }
+{
+    matches!(session.life, Life::Live)
+}
+
+fn expected_from(entry: Option<Entry>) -> u32
+    ensures { result ≡ expected_in entry }
+{
+    match entry {
+        None => 1,
+        Some(entry) => entry.expected,
+    }
+}
+
+/// The number of a rating group's next report.
+pub fn expected(session: &Session, group: u32) -> u32
+    ensures { result ≡ expected_of group session.now }
+{
+    expected_from(entry_in(session.groups.as_slice(), group))
+}
+
+fn open_gate(entry: Option<Entry>) -> Gate
+    ensures { result ≡ gate_in entry }
+{
+    match entry {
+        None => Gate::Waiting,
+        Some(entry) => entry.quota.gate(),
+    }
+}
+
+/// What becomes of a rating group's traffic.
+pub fn gate(session: &Session, group: u32) -> Gate
+    ensures { result ≡ gate_for group session.now }
+{
+    if is_live_session(session) {
+        open_gate(entry_in(session.groups.as_slice(), group))
+    } else {
+        Gate::Closed
+    }
+}
+
+fn is_served_group(entry: Option<Entry>) -> bool
+    ensures { result ≡ is_served entry }
+{
+    match entry {
+        None => false,
+        Some(entry) => match entry.quota.state() {
+            State::Granted | State::Unlimited => true,
+            State::Nothing | State::Denied | State::Spent | State::Free => entry.quota.is_asked(),
+        },
+    }
+}
+
+fn is_full(entry: Option<Entry>, groups: usize) -> bool
+    ensures { result ≡ is_full_for entry groups }
+{
+    match entry {
+        None => groups >= 16,
+        Some(_) => false,
+    }
+}
+
+fn check_start(group: u32, moment: Moment, session: &Session) -> Result<Seen, SmfRefusal>
+    ensures { result ≡ start_answer group moment session.now }
+{
+    if !is_live_session(session) {
+        return Err(SmfRefusal::GateClosed { gate: Gate::Closed });
+    }
+    if is_served_group(entry_in(session.groups.as_slice(), group)) {
+        return Ok(Seen::Known);
+    }
+    if moment < session.last {
+        return Err(SmfRefusal::MomentBack { last: session.last });
+    }
+    let entry = entry_in(session.groups.as_slice(), group);
+    if is_full(entry, session.groups.len()) {
+        return Err(SmfRefusal::TooManyGroups);
+    }
+    Ok(Seen::New)
+}
+
+fn check_count(report: &Report, session: &Session) -> Result<Seen, SmfRefusal>
+    ensures { result ≡ count_answer report.now session.now }
+{
+    let expected = expected(session, report.group);
+    if 1 <= report.number && report.number < expected {
+        return Ok(Seen::Known);
+    }
+    let gate = gate(session, report.group);
+    if !matches!(gate, Gate::Passing) {
+        return Err(SmfRefusal::GateClosed { gate });
+    }
+    if report.number != expected {
+        return Err(SmfRefusal::OutOfStep { expected });
+    }
+    if report.up > 1 << 40 || report.down > 1 << 40 || report.seconds > 86_400 {
+        return Err(SmfRefusal::TooLarge);
+    }
+    if report.moment < session.last {
+        return Err(SmfRefusal::MomentBack { last: session.last });
+    }
+    if session.reports >= 1 << 20 {
+        return Err(SmfRefusal::TooManyReports);
+    }
+    Ok(Seen::New)
+}
+
+fn check_change(moment: Moment, session: &Session) -> Result<Seen, SmfRefusal>
+    ensures { result ≡ change_answer moment session.now }
+{
+    if !is_live_session(session) {
+        return Err(SmfRefusal::GateClosed { gate: Gate::Closed });
+    }
+    if moment < session.last {
+        return Err(SmfRefusal::MomentBack { last: session.last });
+    }
+    Ok(Seen::New)
+}
+
+fn check_detach(moment: Moment, session: &Session) -> Result<Seen, SmfRefusal>
+    ensures { result ≡ detach_answer moment session.now }
+{
+    if !is_live_session(session) {
+        return Ok(Seen::Known);
+    }
+    if moment < session.last {
+        return Err(SmfRefusal::MomentBack { last: session.last });
+    }
+    Ok(Seen::New)
+}
+
+fn check_reply(number: u32, reply: &Reply, session: &Session) -> Result<Seen, SmfRefusal>
+    ensures { result ≡ reply_answer number reply.now session.now }
+{
+    if !matches!(session.life, Life::Ended) && is_answer_to(number, reply, &session.request) {
+        Ok(Seen::New)
+    } else {
+        Ok(Seen::Known)
+    }
+}
+
+fn check_attach(found: Option<&Session>, groups: usize) -> Result<Seen, SmfRefusal>
+    ensures { result ≡ attach_answer (option_copied found.entry) groups }
+{
+    match found {
+        Some(_) => Err(SmfRefusal::SessionExists),
+        None => {
+            if groups > 16 {
+                Err(SmfRefusal::TooManyGroups)
+            } else {
+                Ok(Seen::New)
+            }
+        }
+    }
+}
+
+/// What the machine answers to an event: the checks of each event, in order.
+pub fn check(machine: &Machine, event: &SmfEvent) -> Result<Seen, SmfRefusal>
+    ensures { result ≡ answer_of machine.now event.now }
+{
+    let sessions = machine.sessions.as_slice();
+    match event {
+        SmfEvent::Attach {
+            session,
+            groups,
+            ..
+        } => check_attach(session_in(sessions, *session), groups.len()),
+        SmfEvent::Start {
+            session,
+            group,
+            moment,
+        } => match session_in(sessions, *session) {
+            None => Err(SmfRefusal::NoSession),
+            Some(session) => check_start(*group, *moment, session),
+        },
+        SmfEvent::Count { session, report } => match session_in(sessions, *session) {
+            None => Err(SmfRefusal::NoSession),
+            Some(session) => check_count(report, session),
+        },
+        SmfEvent::Change {
+            session,
+            moment,
+            ..
+        } => match session_in(sessions, *session) {
+            None => Err(SmfRefusal::NoSession),
+            Some(session) => check_change(*moment, session),
+        },
+        SmfEvent::Tick { moment } => {
+            if *moment < machine.moment {
+                return Err(SmfRefusal::MomentBack {
+                    last: machine.moment,
+                });
+            }
+            Ok(Seen::New)
+        }
+        SmfEvent::Detach {
+            session,
+            moment,
+            ..
+        } => match session_in(sessions, *session) {
+            None => Err(SmfRefusal::NoSession),
+            Some(session) => check_detach(*moment, session),
+        },
+        SmfEvent::Answered {
+            session,
+            number,
+            reply,
+        } => match session_in(sessions, *session) {
+            None => Err(SmfRefusal::NoSession),
+            Some(session) => check_reply(*number, reply, session),
+        },
+    }
+}
