@@ -5,3 +5,4 @@ pub mod Freeze
 pub mod Traffic
 pub mod Replies
 pub mod Machine
+pub mod Plan

@@ -111,14 +111,17 @@ abbrev pub attach_answer : Option Session → ℕ → Result Seen SmfRefusal
 attach_answer (Some s) groups = Err SessionExists
 attach_answer None groups = if nat_lt 16 groups then Err TooManyGroups else Ok New
 
+abbrev pub answer_in : ℕ → List Session → SmfEvent → Result Seen SmfRefusal
+answer_in now sessions (Attach session subscriber groups moment) = attach_answer (session_of session sessions) (length groups)
+answer_in now sessions (Start session group moment) = on_session (session_of session sessions) (start_answer group moment)
+answer_in now sessions (Count session r) = on_session (session_of session sessions) (count_answer r)
+answer_in now sessions (Change session trigger moment) = on_session (session_of session sessions) (change_answer moment)
+answer_in now sessions (Tick moment) = if nat_lt moment now then Err (MomentBack now) else Ok New
+answer_in now sessions (Detach session abnormal moment) = on_session (session_of session sessions) (detach_answer moment)
+answer_in now sessions (Answered session number reply) = on_session (session_of session sessions) (reply_answer number reply)
+
 abbrev pub answer_of : Machine → SmfEvent → Result Seen SmfRefusal
-answer_of m (Attach session subscriber groups moment) = attach_answer (session_of session m.sessions) (length groups)
-answer_of m (Start session group moment) = on_session (session_of session m.sessions) (start_answer group moment)
-answer_of m (Count session r) = on_session (session_of session m.sessions) (count_answer r)
-answer_of m (Change session trigger moment) = on_session (session_of session m.sessions) (change_answer moment)
-answer_of m (Tick moment) = if nat_lt moment m.moment then Err (MomentBack m.moment) else Ok New
-answer_of m (Detach session abnormal moment) = on_session (session_of session m.sessions) (detach_answer moment)
-answer_of m (Answered session number reply) = on_session (session_of session m.sessions) (reply_answer number reply)
+answer_of m event = answer_in m.moment m.sessions event
 
 -- now: the greatest moment that an accepted event carried
 abbrev pub now_after : ℕ → SmfEvent → ℕ

@@ -91,11 +91,7 @@ fn info_in(units: &[UnitInfo], group: u32) -> Option<&UnitInfo>
     None
 }
 
-fn horizon_from(
-    stamp: Moment,
-    info: Option<&UnitInfo>,
-    horizon: Option<Horizon>,
-) -> Option<Horizon>
+fn horizon_from(stamp: Moment, info: Option<&UnitInfo>, horizon: Option<Horizon>) -> Option<Horizon>
     ensures { result ≡ horizon_after stamp (option_copied info.entry) horizon }
 {
     match info {

@@ -2,12 +2,12 @@ ghost use Rattle.std.specs.Prelude.{◌≡◌, ◌==◌, length};
 ghost use Rattle.std.specs.List.{find};
 ghost use Rattle.std.specs.Option.{option_copied};
 ghost use Rattle.smf_core.specs.Settle.{entry_of};
-ghost use Rattle.smf_core.specs.Machine.{session_of, is_live, expected_in, expected_of, gate_in, gate_for, is_served, is_full_for, start_answer, count_answer, change_answer, detach_answer, reply_answer, attach_answer, answer_of};
+ghost use Rattle.smf_core.specs.Machine.{session_of, is_live, expected_in, expected_of, gate_in, gate_for, is_served, is_full_for, start_answer, count_answer, change_answer, detach_answer, reply_answer, attach_answer, answer_in};
 
 use crate::answers::is_answer_to;
 use crate::event::SmfEvent;
 use crate::refusal::{Seen, SmfRefusal};
-use crate::session::{Entry, Life, Machine, Session};
+use crate::session::{Entry, Life, Session};
 use crate::settle::entry_in;
 use quotas::{Gate, State};
 use units::{Moment, Reply, Report};
@@ -182,10 +182,9 @@ fn check_attach(found: Option<&Session>, groups: usize) -> Result<Seen, SmfRefus
 }
 
 /// What the machine answers to an event: the checks of each event, in order.
-pub fn check(machine: &Machine, event: &SmfEvent) -> Result<Seen, SmfRefusal>
-    ensures { result ≡ answer_of machine.now event.now }
+pub fn check(now: Moment, sessions: &[Session], event: &SmfEvent) -> Result<Seen, SmfRefusal>
+    ensures { result ≡ answer_in now sessions.now event.now }
 {
-    let sessions = machine.sessions.as_slice();
     match event {
         SmfEvent::Attach {
             session,
@@ -213,10 +212,8 @@ pub fn check(machine: &Machine, event: &SmfEvent) -> Result<Seen, SmfRefusal>
             Some(session) => check_change(*moment, session),
         },
         SmfEvent::Tick { moment } => {
-            if *moment < machine.moment {
-                return Err(SmfRefusal::MomentBack {
-                    last: machine.moment,
-                });
+            if *moment < now {
+                return Err(SmfRefusal::MomentBack { last: now });
             }
             Ok(Seen::New)
         }

@@ -17,7 +17,10 @@ pub enum SmfEvent {
         moment: Moment,
     },
     /// A usage report.
-    Count { session: u32, report: Report },
+    Count {
+        session: u32,
+        report: Report,
+    },
     /// A change of charging conditions, which closes every open container of the session.
     Change {
         session: u32,
@@ -25,7 +28,9 @@ pub enum SmfEvent {
         moment: Moment,
     },
     /// Time passes.
-    Tick { moment: Moment },
+    Tick {
+        moment: Moment,
+    },
     /// The PDU session ends.
     Detach {
         session: u32,

@@ -201,11 +201,7 @@ fn usages_in(
     Ok(out)
 }
 
-fn triggers_for(
-    alloc: Global,
-    operation: Operation,
-    life: Life,
-) -> Result<List<Text>, OutOfMemory>
+fn triggers_for(alloc: Global, operation: Operation, life: Life) -> Result<List<Text>, OutOfMemory>
     ensures { IfOk result (λ r. r ≡ triggers_of operation life) }
 {
     let mut list = List::new(alloc);

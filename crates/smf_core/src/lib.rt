@@ -7,16 +7,23 @@ mod event;
 mod freeze;
 mod names;
 mod plain;
+mod plan;
 mod refusal;
 mod rules;
 mod session;
 mod settle;
 mod setup;
+mod smf;
 mod step;
 mod traffic;
 
 pub use event::SmfEvent;
 pub use plain::{plain_after, plain_step};
+pub use plan::{Next, SmfPlan};
 pub use refusal::{Seen, SmfRefusal};
 pub use session::{Entry, Holding, Layer, Life, Machine, Place, Session, Why};
 pub use setup::SmfSetup;
+pub use smf::Smf;
+
+#[cfg(test)]
+mod tests;

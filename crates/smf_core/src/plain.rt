@@ -5,26 +5,10 @@ use crate::checks::check;
 use crate::event::SmfEvent;
 use crate::refusal::Seen;
 use crate::session::{Machine, Session};
-use crate::setup::SmfSetup;
-use crate::step::{add_session, moment_after, next_or_same};
+use crate::setup::{SmfSetup, copy_setup};
+use crate::step::{added_session, moment_after, next_or_same};
 use std::alloc::Global;
-use units::{List, Moment, OutOfMemory, copy};
-
-fn copy_setup(setup: &SmfSetup) -> Result<SmfSetup, OutOfMemory>
-    ensures { IfOk result (λ r. r ≡ setup.now) }
-{
-    let name = copy(&setup.name)?;
-    Ok(SmfSetup {
-        name,
-        failover: setup.failover,
-        handling: setup.handling,
-        retry: setup.retry,
-        held_max: setup.held_max,
-        changes_max: setup.changes_max,
-        volume_limit: setup.volume_limit,
-        time_limit: setup.time_limit,
-    })
-}
+use units::{List, Moment, OutOfMemory};
 
 fn next_sessions(
     alloc: Global,
@@ -53,7 +37,9 @@ fn step_new(alloc: Global, machine: Machine, event: &SmfEvent) -> Result<Machine
     } = machine;
     let now = moment_after(moment, event);
     let mut next = next_sessions(alloc, &setup, now, event, sessions.as_slice())?;
-    add_session(alloc, &setup, now, event, &mut next)?;
+    if let Some(session) = added_session(alloc, &setup, now, event)? {
+        next.push(session)?;
+    }
     Ok(Machine {
         setup,
         moment: now,
@@ -65,7 +51,7 @@ fn step_new(alloc: Global, machine: Machine, event: &SmfEvent) -> Result<Machine
 pub fn plain_step(alloc: Global, machine: Machine, event: &SmfEvent) -> Result<Machine, OutOfMemory>
     ensures { IfOk result (λ r. r ≡ step machine event.now) }
 {
-    match check(&machine, event) {
+    match check(machine.moment, machine.sessions.as_slice(), event) {
         Ok(Seen::New) => step_new(alloc, machine, event),
         Ok(Seen::Known) => Ok(machine),
         Err(_) => Ok(machine),

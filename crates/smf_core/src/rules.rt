@@ -35,7 +35,9 @@ fn category(group: Option<u32>, trigger: TriggerType, layers: &[Layer]) -> Optio
 {
     let mut found = None;
     for layer in layers {
-        found = rule_for(group, trigger, layer).map(|r| r.immediate).or(found);
+        found = rule_for(group, trigger, layer)
+            .map(|r| r.immediate)
+            .or(found);
     }
     found
 }
@@ -88,8 +90,7 @@ pub fn immediate(session: &Session, trigger: TriggerType) -> bool
 pub fn immediate_for(session: &Session, group: u32, trigger: TriggerType) -> bool
     ensures { result ≡ is_immediate_for session.now group trigger }
 {
-    category(Some(group), trigger, session.rules.as_slice())
-        .unwrap_or(immediate(session, trigger))
+    category(Some(group), trigger, session.rules.as_slice()).unwrap_or(immediate(session, trigger))
 }
 
 /// The limits of a rating group's containers.
@@ -98,10 +99,12 @@ pub fn limits(setup: &SmfSetup, session: &Session, group: u32) -> Limits
 {
     let layers = session.rules.as_slice();
     Limits {
-        volume: volume(Some(group), layers)
-            .unwrap_or(volume(None, layers).unwrap_or(setup.volume_limit)),
-        seconds: seconds(Some(group), layers)
-            .unwrap_or(seconds(None, layers).unwrap_or(setup.time_limit)),
+        volume: volume(Some(group), layers).unwrap_or(volume(None, layers).unwrap_or(
+            setup.volume_limit,
+        )),
+        seconds: seconds(Some(group), layers).unwrap_or(seconds(None, layers).unwrap_or(
+            setup.time_limit,
+        )),
     }
 }
 

@@ -146,12 +146,7 @@ pub fn close_holding(moment: Moment, trigger: Option<TriggerType>, holding: &Hol
     }
 }
 
-fn due_of_group(
-    setup: &SmfSetup,
-    now: Moment,
-    session: &Session,
-    group: u32,
-) -> Option<TriggerType>
+fn due_of_group(setup: &SmfSetup, now: Moment, session: &Session, group: u32) -> Option<TriggerType>
     ensures { result ≡ due_at setup.now now session.now (entry_of group session.now.groups) }
 {
     match entry_in(session.groups.as_slice(), group) {
@@ -217,11 +212,11 @@ fn closed_holdings(
 fn any_at_once(setup: &SmfSetup, now: Moment, session: &Session) -> bool
     ensures { result ≡ list_any (λ e. is_at_once session.now e.number (due_in setup.now now session.now e)) session.now.groups }
 {
-    session
-        .groups
-        .as_slice()
-        .iter()
-        .any(|e| at_once(session, e.number, due_of_entry(setup, now, session, e)))
+    session.groups.as_slice().iter().any(|e| at_once(
+        session,
+        e.number,
+        due_of_entry(setup, now, session, e),
+    ))
 }
 
 /// Settles a session (TS 32.255, 5.2.1).

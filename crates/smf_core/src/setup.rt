@@ -1,4 +1,6 @@
-use units::{Handling, Text};
+ghost use Rattle.std.specs.Prelude.{◌≡◌, IfOk};
+
+use units::{Handling, OutOfMemory, Text, copy};
 
 /// How an SMF charges (TS 32.255, 5.2.1; TS 32.290, 5.3 and failure handling).
 #[derive(Debug, Drop)]
@@ -19,4 +21,21 @@ pub struct SmfSetup {
     pub volume_limit: u64,
     /// The time limit of a container in seconds, 0 for none, until a CHF says otherwise.
     pub time_limit: u32,
+}
+
+/// A copy of a setup.
+pub fn copy_setup(setup: &SmfSetup) -> Result<SmfSetup, OutOfMemory>
+    ensures { IfOk result (λ r. r ≡ setup.now) }
+{
+    let name = copy(&setup.name)?;
+    Ok(SmfSetup {
+        name,
+        failover: setup.failover,
+        handling: setup.handling,
+        retry: setup.retry,
+        held_max: setup.held_max,
+        changes_max: setup.changes_max,
+        volume_limit: setup.volume_limit,
+        time_limit: setup.time_limit,
+    })
 }

@@ -1,5 +1,6 @@
 ghost use Rattle.std.specs.Prelude.{◌≡◌, ◌==◌, ◌++◌, IfOk, OnOk, map, List};
-ghost use Rattle.smf_core.specs.Machine.{now_after, touches, effect, finished, next_session, entries_of, fresh, added_by, stepped};
+ghost use Rattle.smf_core.specs.Machine.{now_after, touches, effect, finished, next_session, entries_of, fresh, added_by};
+ghost use Rattle.smf_core.specs.Plan.{listed};
 
 use crate::answers::answer;
 use crate::event::SmfEvent;
@@ -194,15 +195,14 @@ fn fresh_session(
     })
 }
 
-/// Adds the session that an event adds.
-pub fn add_session(
+/// The session that an event adds.
+pub fn added_session(
     alloc: Global,
     setup: &SmfSetup,
     now: Moment,
     event: &SmfEvent,
-    sessions: &mut Vec<Session>,
-) -> Result<(), OutOfMemory>
-    ensures { OnOk result (sessions.new.items ≡ sessions.old.items ++ added_by setup.now now event.now) }
+) -> Result<Option<Session>, OutOfMemory>
+    ensures { IfOk result (λ r. listed r ≡ added_by setup.now now event.now) }
 {
     match event {
         SmfEvent::Attach {
@@ -215,9 +215,8 @@ pub fn add_session(
             let mut next = fresh_session(alloc, setup, *session, subscriber, groups, *moment)?;
             freeze_request(alloc, setup, now, Operation::Create, &mut next)?;
             finish(alloc, setup, now, &mut next)?;
-            sessions.push(next)?;
-            Ok(())
+            Ok(Some(next))
         }
-        _ => Ok(()),
+        _ => Ok(None),
     }
 }

@@ -33,11 +33,7 @@ fn joins(horizon: &Option<Horizon>, container: &Container, report: &Report) -> b
         && container.seconds.checked_add(report.seconds).is_some()
 }
 
-fn trigger_between(
-    horizon: &Option<Horizon>,
-    container: &Container,
-    report: &Report,
-) -> TriggerType
+fn trigger_between(horizon: &Option<Horizon>, container: &Container, report: &Report) -> TriggerType
     ensures { result ≡ trigger_of horizon.now container.now report.now }
 {
     if is_split(horizon, container.last, report.moment) {
@@ -67,12 +63,7 @@ fn trigger_before(
     }
 }
 
-fn close_in(
-    group: u32,
-    moment: Moment,
-    trigger: Option<TriggerType>,
-    holding: &Holding,
-) -> Holding
+fn close_in(group: u32, moment: Moment, trigger: Option<TriggerType>, holding: &Holding) -> Holding
     ensures { result ≡ close_of group moment trigger holding.now }
 {
     if is_open_in(group, holding) {
