@@ -125,7 +125,7 @@ fn a_report_reaches_the_threshold_and_a_tick_the_end_of_validity(
     let setup = setup(alloc)?;
     let reported = events(alloc, report(1, 400_000, 500_000, 1767324000), None)?;
     let machine = plain_after(alloc, &setup, &reported)?;
-    assert!(asks(&machine, 2, 1767324000, 1));
+    assert!(rt; asks(&machine, 2, 1767324000, 1));
     let early = events(
         alloc,
         SmfEvent::Tick {
@@ -134,7 +134,7 @@ fn a_report_reaches_the_threshold_and_a_tick_the_end_of_validity(
         None,
     )?;
     let machine = plain_after(alloc, &setup, &early)?;
-    assert!(is_idle(&machine));
+    assert!(rt; is_idle(&machine));
     let late = SmfEvent::Tick {
         moment: at(1767326645),
     };
@@ -146,7 +146,7 @@ fn a_report_reaches_the_threshold_and_a_tick_the_end_of_validity(
         Some(late),
     )?;
     let machine = plain_after(alloc, &setup, &both)?;
-    assert!(asks(&machine, 2, 1767326645, 0));
+    assert!(rt; asks(&machine, 2, 1767326645, 0));
     Ok(())
 }
 
@@ -167,22 +167,22 @@ fn a_session_is_charged_by_plans(rt: HostRuntime) -> Result<(), Fail> {
     let setup = setup(alloc)?;
     let mut smf = Smf::new(alloc, &setup)?;
     let attached = attach(alloc)?;
-    assert!(taken(alloc, &mut smf, &report(1, 1, 1, ATTACHED)) == Err(SmfRefusal::NoSession));
-    assert!(taken(alloc, &mut smf, &attached) == Ok(Seen::New));
-    assert!(taken(alloc, &mut smf, &attached) == Err(SmfRefusal::SessionExists));
-    assert!(smf.gate(7, 10) == Gate::Waiting);
-    assert!(taken(alloc, &mut smf, &created(alloc)?) == Ok(Seen::New));
-    assert!(smf.gate(7, 10) == Gate::Passing);
-    assert!(smf.request(7).is_none());
-    assert!(
+    assert!(rt; taken(alloc, &mut smf, &report(1, 1, 1, ATTACHED)) == Err(SmfRefusal::NoSession));
+    assert!(rt; taken(alloc, &mut smf, &attached) == Ok(Seen::New));
+    assert!(rt; taken(alloc, &mut smf, &attached) == Err(SmfRefusal::SessionExists));
+    assert!(rt; smf.gate(7, 10) == Gate::Waiting);
+    assert!(rt; taken(alloc, &mut smf, &created(alloc)?) == Ok(Seen::New));
+    assert!(rt; smf.gate(7, 10) == Gate::Passing);
+    assert!(rt; smf.request(7).is_none());
+    assert!(rt; 
         taken(alloc, &mut smf, &report(2, 1, 1, 1767324000))
             == Err(SmfRefusal::OutOfStep { expected: 1 })
     );
-    assert!(taken(alloc, &mut smf, &report(1, 400_000, 500_000, 1767324000)) == Ok(Seen::New));
-    assert!(taken(alloc, &mut smf, &report(1, 4, 5, 1767324000)) == Ok(Seen::Known));
-    assert!(smf.expected(7, 10) == 2);
-    assert!(smf.request(7).is_some());
-    assert!(
+    assert!(rt; taken(alloc, &mut smf, &report(1, 400_000, 500_000, 1767324000)) == Ok(Seen::New));
+    assert!(rt; taken(alloc, &mut smf, &report(1, 4, 5, 1767324000)) == Ok(Seen::Known));
+    assert!(rt; smf.expected(7, 10) == 2);
+    assert!(rt; smf.request(7).is_some());
+    assert!(rt; 
         matches!(smf.holdings(7), [h] if h.trigger == Some(TriggerType::QuotaThreshold) && h.place == Place::Frozen)
     );
     Ok(())
