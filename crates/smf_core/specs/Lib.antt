@@ -6,3 +6,4 @@ pub mod Traffic
 pub mod Replies
 pub mod Machine
 pub mod Plan
+pub mod Trace

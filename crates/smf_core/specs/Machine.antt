@@ -133,14 +133,14 @@ now_after now (Tick moment) = max now moment
 now_after now (Detach session abnormal moment) = max now moment
 now_after now (Answered session number reply) = now
 
--- the sessions that an event touches: its own, and a tick all of them
+-- the sessions that an event touches: its own, which a detach finds live, and a tick all of them
 abbrev pub touches : SmfEvent → Session → Bool
 touches (Attach session subscriber groups moment) s = false
 touches (Start session group moment) s = s.number == session
 touches (Count session r) s = s.number == session
 touches (Change session trigger moment) s = s.number == session
 touches (Tick moment) s = true
-touches (Detach session abnormal moment) s = s.number == session
+touches (Detach session abnormal moment) s = (s.number == session) && is_live s.life
 touches (Answered session number reply) s = s.number == session
 
 -- what it does to them

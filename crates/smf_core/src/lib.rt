@@ -5,6 +5,7 @@ mod answers;
 mod checks;
 mod event;
 mod freeze;
+mod laws;
 mod names;
 mod plain;
 mod plan;
@@ -18,6 +19,7 @@ mod step;
 mod traffic;
 
 pub use event::SmfEvent;
+pub use laws::requests_in_order;
 pub use plain::{plain_after, plain_step};
 pub use plan::{Next, SmfPlan};
 pub use refusal::{Seen, SmfRefusal};

@@ -34,6 +34,10 @@ pub fn is_touched(event: &SmfEvent, session: &Session) -> bool
     match event {
         SmfEvent::Attach { .. } => false,
         SmfEvent::Tick { .. } => true,
+        SmfEvent::Detach {
+            session: number,
+            ..
+        } => session.number == *number && matches!(session.life, Life::Live),
         SmfEvent::Start {
             session: number,
             ..
@@ -43,10 +47,6 @@ pub fn is_touched(event: &SmfEvent, session: &Session) -> bool
             ..
         }
         | SmfEvent::Change {
-            session: number,
-            ..
-        }
-        | SmfEvent::Detach {
             session: number,
             ..
         }

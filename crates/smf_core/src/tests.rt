@@ -174,7 +174,7 @@ fn a_session_is_charged_by_plans(rt: HostRuntime) -> Result<(), Fail> {
     assert!(rt; taken(alloc, &mut smf, &created(alloc)?) == Ok(Seen::New));
     assert!(rt; smf.gate(7, 10) == Gate::Passing);
     assert!(rt; smf.request(7).is_none());
-    assert!(rt; 
+    assert!(rt;
         taken(alloc, &mut smf, &report(2, 1, 1, 1767324000))
             == Err(SmfRefusal::OutOfStep { expected: 1 })
     );
@@ -182,7 +182,7 @@ fn a_session_is_charged_by_plans(rt: HostRuntime) -> Result<(), Fail> {
     assert!(rt; taken(alloc, &mut smf, &report(1, 4, 5, 1767324000)) == Ok(Seen::Known));
     assert!(rt; smf.expected(7, 10) == 2);
     assert!(rt; smf.request(7).is_some());
-    assert!(rt; 
+    assert!(rt;
         matches!(smf.holdings(7), [h] if h.trigger == Some(TriggerType::QuotaThreshold) && h.place == Place::Frozen)
     );
     Ok(())
