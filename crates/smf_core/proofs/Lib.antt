@@ -1,3 +1,4 @@
 pub mod PutAll
 pub mod Agreement
 pub mod Runs
+pub mod Later

@@ -7,3 +7,4 @@ pub mod Replies
 pub mod Machine
 pub mod Plan
 pub mod Trace
+pub mod Forward

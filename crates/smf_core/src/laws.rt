@@ -1,12 +1,19 @@
 //! What holds of all lists of events.
-ghost use Rattle.std.specs.Prelude.{◌≡◌, ℕ, List};
+ghost use Rattle.std.specs.Prelude.{◌≡◌, ◌++◌, ℕ, List};
 ghost use Rattle.smf_core.specs.declared.setup.SmfSetup.{SmfSetup};
 ghost use Rattle.smf_core.specs.declared.event.SmfEvent.{SmfEvent};
 ghost use Rattle.smf_core.specs.Machine.{machine_after, session_of};
+ghost use Rattle.smf_core.specs.Forward.{IsLaterSession};
 ghost use Rattle.smf_core.specs.Trace.{trace, AgreesWith};
 
 /// A law of events; it does nothing. After any events each session is as its moves leave it: its requests are numbered 1, 2, 3, each
 /// after the first was frozen after a success of the one before, and the unanswered one is the newest (TS 32.290, 5.3.2).
 pub fn requests_in_order()
     ensures { (setup : SmfSetup) (events : List SmfEvent) (number : ℕ) → AgreesWith (trace setup events number) (session_of number (machine_after setup events).sessions) }
+{}
+
+/// A law of events; it does nothing. As events go on a session stays, and each of its containers stays where it is or goes on: open,
+/// waiting, frozen, then answered or given up, so what is answered or given up stays so (this product's own).
+pub fn places_go_on()
+    ensures { (setup : SmfSetup) (more events : List SmfEvent) (number : ℕ) → IsLaterSession (session_of number (machine_after setup events).sessions) (session_of number (machine_after setup (more ++ events)).sessions) }
 {}
