@@ -1,13 +1,13 @@
 -- Each part of an event leaves a session as its moves say.
-use Rattle.std.proofs.Common.{◌≡◌, ℕ, ◌+◌, ◌-◌, ◌==◌, ◌&&◌, List, [], ◌∷◌, ◌++◌, length, refl, sym, ◌∙◌, ap, arith, Bool, true, false, cond, nat_lt, append_assoc}
+use Rattle.std.proofs.Common.{◌≡◌, ℕ, ◌-◌, ◌==◌, ◌&&◌, List, [], ◌∷◌, ◌++◌, refl, sym, ◌∙◌, ap, arith, Bool, true, false, cond, nat_lt, append_assoc}
 use Rattle.std.specs.Prelude.{Option, Some, None, is_some}
 use Rattle.units.specs.declared.trigger.TriggerType.{TriggerType}
-use Rattle.units.specs.declared.trigger.TriggerType.TheVariants.{Final, AbnormalRelease}
+use Rattle.units.specs.declared.trigger.TriggerType.TheVariants.{AbnormalRelease}
 use Rattle.units.specs.declared.request.Operation.{Operation}
 use Rattle.units.specs.declared.request.Request.{Request}
 use Rattle.units.specs.declared.reply.Reply.{Reply}
 use Rattle.units.specs.declared.reply.Reply.TheVariants.{Created, Updated, Released, Refused}
-use Rattle.sessions.specs.Trace.{Move, requests}
+use Rattle.sessions.specs.Trace.{Move}
 use Rattle.sessions.specs.Trace.Move.{Closes, Drops, Freezes, Attempts, NotSent, NoReply, GivesUp, Answers}
 use Rattle.smf_core.specs.declared.setup.SmfSetup.{SmfSetup}
 use Rattle.smf_core.specs.declared.session.Life.{Life}
@@ -17,11 +17,11 @@ use Rattle.smf_core.specs.declared.session.Session.{Session}
 use Rattle.smf_core.specs.declared.event.SmfEvent.{SmfEvent}
 use Rattle.smf_core.specs.declared.event.SmfEvent.TheVariants.{Attach, Start, Count, Change, Tick, Detach, Answered}
 use Rattle.smf_core.specs.Settle.{is_waiting, settled}
-use Rattle.smf_core.specs.Freeze.{waiting_count, next_operation, operation_in, request_of, freeze_due, freeze_by, with_request, dropped}
+use Rattle.smf_core.specs.Freeze.{waiting_count, next_operation, operation_in, request_of, freeze_due, freeze_by, with_request}
 use Rattle.smf_core.specs.Traffic.{counted, started, changed, detached}
 use Rattle.smf_core.specs.Replies.{replied, answered_by}
 use Rattle.smf_core.specs.Machine.{is_live, is_ended, touches, effect, finished, next_session}
-use Rattle.smf_core.specs.Trace.{close_moves, closes_of, closes_all, settle_moves, freeze_moves, freeze_moves_by, drop_moves, finish_moves, ending_moves, reply_moves, effect_moves, session_moves, unanswered, is_idle, FreezeWhenIdle, Agrees}
+use Rattle.smf_core.specs.Trace.{close_moves, closes_of, closes_all, settle_moves, freeze_moves, freeze_moves_by, drop_moves, finish_moves, ending_moves, reply_moves, effect_moves, session_moves, is_idle, Agrees}
 
 -- closes and drops alone
 abbrev pub AreQuiet : List Move → Type 0

@@ -27,8 +27,8 @@ use Rattle.smf_core.specs.declared.refusal.Seen.TheVariants.{New, Known}
 use Rattle.smf_core.specs.declared.refusal.SmfRefusal.{SmfRefusal}
 use Rattle.smf_core.specs.Settle.{is_open, is_waiting, is_frozen, is_open_of, entry_of, close, close_due, due_at, settled}
 use Rattle.smf_core.specs.Freeze.{move_oldest, waiting_count, freeze_due, freeze_by, next_operation}
-use Rattle.smf_core.specs.Traffic.{close_of, extend_of, first_of, joined, taken, close_any, without_traffic, give_up, ended, ended_for}
-use Rattle.smf_core.specs.Replies.{answer_holding, replied, released, answered_by}
+use Rattle.smf_core.specs.Traffic.{close_of, extend_of, first_of, joined, taken, close_any, without_traffic, give_up, ended_for}
+use Rattle.smf_core.specs.Replies.{answer_holding, replied, answered_by}
 use Rattle.smf_core.specs.Machine.{machine_after, answer_of, after_answer, now_after, next_session, session_of, finished, touches, effect}
 use Rattle.smf_core.specs.Forward.{rank, GoesOn, AreLater, IsLaterSession}
 use Rattle.smf_core.proofs.Runs.{number-next}

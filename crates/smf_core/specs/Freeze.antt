@@ -4,7 +4,7 @@ use Rattle.std.specs.List.{list_any}
 use Rattle.units.specs.declared.trigger.TriggerType.{TriggerType}
 use Rattle.units.specs.declared.trigger.TriggerType.TheVariants.{AbnormalRelease}
 use Rattle.units.specs.declared.request.Operation.{Operation}
-use Rattle.units.specs.declared.request.Operation.TheVariants.{Create, Update, Release}
+use Rattle.units.specs.declared.request.Operation.TheVariants.{Update, Release}
 use Rattle.units.specs.declared.request.Ask.{Ask}
 use Rattle.units.specs.declared.request.Used.{Used}
 use Rattle.units.specs.declared.request.UnitUsage.{UnitUsage}

@@ -1,5 +1,5 @@
 -- The machine: its answer to each event, in the order of its checks, and the step that a new event is (TS 32.255, 5.2.1; TS 32.290, 5.3.2).
-use Rattle.std.specs.Prelude.{ℕ, ◌^◌, ◌==◌, ◌&&◌, ◌||◌, not, nat_lt, nat_le, Bool, true, false, if◌then◌else◌, max, Option, Some, None, is_some, List, [], ◌∷◌, ◌++◌, map, fold, length, Result, Ok, Err}
+use Rattle.std.specs.Prelude.{ℕ, ◌^◌, ◌==◌, ◌&&◌, ◌||◌, not, nat_lt, nat_le, Bool, true, false, if◌then◌else◌, max, Option, Some, None, List, [], ◌∷◌, ◌++◌, map, fold, length, Result, Ok, Err}
 use Rattle.std.specs.List.{find}
 use Rattle.units.specs.declared.report.Report.{Report}
 use Rattle.units.specs.declared.reply.Reply.{Reply}

@@ -1,5 +1,5 @@
 -- A plan: what an event makes of the machine, as the sessions that take the place of others and the session that is added (this product's own).
-use Rattle.std.specs.Prelude.{◌≡◌, ◌⊎◌, ℕ, Bool, Option, Some, None, List, [], ◌∷◌, ◌++◌, slice_set, Ok, Err, option_and_then}
+use Rattle.std.specs.Prelude.{◌≡◌, ◌⊎◌, ℕ, Option, Some, None, List, [], ◌∷◌, ◌++◌, slice_set, Ok, Err, option_and_then}
 use Rattle.units.specs.declared.request.Request.{Request}
 use Rattle.quotas.specs.declared.state.Gate.{Gate}
 use Rattle.quotas.specs.declared.state.Gate.TheVariants.{Waiting}
@@ -11,7 +11,7 @@ use Rattle.smf_core.specs.declared.plan.Next.{Next}
 use Rattle.smf_core.specs.declared.plan.SmfPlan.{SmfPlan}
 use Rattle.smf_core.specs.declared.refusal.SmfRefusal.{SmfRefusal}
 use Rattle.smf_core.specs.declared.refusal.SmfRefusal.TheVariants.{OutOfMemory}
-use Rattle.smf_core.specs.Machine.{session_of, gate_for, expected_of, answer_of, step}
+use Rattle.smf_core.specs.Machine.{gate_for, expected_of, answer_of, step}
 
 -- each session takes its place
 abbrev pub put_all : List Next → List Session → List Session

@@ -1,5 +1,5 @@
 -- Trigger rules: a rule sets the category of its type, and each limit that it gives; what it does not give stays (TS 32.291, 6.1.6.2.1.7).
-use Rattle.std.specs.Prelude.{ℕ, nat_eq, ◌&&◌, Bool, List, fold, Option, None, Some, option_map, option_and_then, unwrap_or, min, max, if◌then◌else◌}
+use Rattle.std.specs.Prelude.{ℕ, nat_eq, Bool, List, fold, Option, None, Some, option_map, option_and_then, unwrap_or, min, max, if◌then◌else◌}
 use Rattle.std.specs.List.{find}
 use Rattle.std.specs.Option.{option_eq}
 use Rattle.units.specs.declared.trigger.TriggerType.{TriggerType}

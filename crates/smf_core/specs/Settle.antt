@@ -1,5 +1,5 @@
 -- Settling: for each rating group the first due trigger closes its open container, if there is one, and has its effect (TS 32.255, 5.2.1).
-use Rattle.std.specs.Prelude.{ℕ, ◌==◌, ◌&&◌, ◌||◌, Bool, true, false, if◌then◌else◌, Option, Some, None, List, map, option_map, option_and_then}
+use Rattle.std.specs.Prelude.{ℕ, ◌==◌, ◌&&◌, ◌||◌, Bool, true, false, if◌then◌else◌, Option, Some, None, List, map}
 use Rattle.std.specs.List.{find, list_any}
 use Rattle.units.specs.declared.report.Container.{Container}
 use Rattle.units.specs.declared.trigger.TriggerType.{TriggerType}

@@ -9,7 +9,7 @@ use Rattle.units.specs.declared.reply.Reply.{Reply}
 use Rattle.units.specs.declared.reply.Reply.TheVariants.{Created, Updated, Released, Refused}
 use Rattle.sessions.specs.Kept.{is_success}
 use Rattle.sessions.specs.Trace.{Move, requests}
-use Rattle.sessions.specs.Trace.Move.{Closes, Drops, Freezes, Attempts, NotSent, NoReply, GivesUp, Answers}
+use Rattle.sessions.specs.Trace.Move.{Closes, Drops, Freezes, GivesUp, Answers}
 use Rattle.smf_core.specs.declared.setup.SmfSetup.{SmfSetup}
 use Rattle.smf_core.specs.declared.session.Holding.{Holding}
 use Rattle.smf_core.specs.declared.session.Session.{Session}

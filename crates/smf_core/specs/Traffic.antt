@@ -1,5 +1,5 @@
 -- Reports, changes and ends of traffic (TS 32.255, 5.2.1).
-use Rattle.std.specs.Prelude.{ℕ, ◌+◌, ◌==◌, ◌||◌, nat_lt, Bool, true, false, if◌then◌else◌, Option, Some, None, List, [], ◌∷◌, ◌++◌, map, filter, fold, length, option_and_then}
+use Rattle.std.specs.Prelude.{ℕ, ◌+◌, ◌==◌, ◌||◌, nat_lt, Bool, false, if◌then◌else◌, Option, Some, None, List, [], ◌∷◌, ◌++◌, map, filter, length}
 use Rattle.std.specs.List.{list_any}
 use Rattle.units.specs.declared.report.Report.{Report}
 use Rattle.units.specs.declared.report.Container.{Container}

@@ -1,6 +1,5 @@
 use Rattle.std.proofs.Common.{◌≡◌, drop, fold}
-use Rattle.std.specs.Prelude.{None, option_map, option_and_then}
-use Rattle.units.specs.declared.trigger.TriggerType.TheVariants.{VolumeLimit, TimeLimit, MaxNumberOfChangesInChargingConditions}
+use Rattle.std.specs.Prelude.{None, option_map}
 use Rattle.smf_core.specs.Rules.{rule_for, or_earlier}
 use Rattle.smf_core.proofs.rules.category.Given as goal
 
