@@ -35,7 +35,7 @@ pub record KeepsKeys (v : KeyTable) (commands : List Command) : Type 0 where
 
 -- all that is kept is what the commands stand for
 pub record IsKept (commands : List Command) (told : List Outcome) (o : Operator) (v : KeyTable) (s : List Session) (accounts : Contents) : Type 0 where
-  pub outcomes : reverse told ≡ outcomes_of commands
+  pub told_are : reverse told ≡ outcomes_of commands
   pub operator : KeepsOperator o commands
   pub keyed : KeepsKeys v commands
   pub sessions : s ≡ sessions commands

@@ -1,4 +1,4 @@
-ghost use Rattle.std.specs.Prelude.{◌≡◌, ◌∷◌, [], IfOk, option_copied, option_map, length};
+ghost use Rattle.std.specs.Prelude.{◌≡◌, ◌∷◌, [], IfOk, slice_get, option_copied, option_map, length};
 ghost use Rattle.accounts.specs.Deadlines.{IsLeast};
 ghost use Rattle.chf_core.specs.Operator.{account_names, setup_of};
 ghost use Rattle.chf_core.specs.Sessions.{reference_of, name};
@@ -38,6 +38,12 @@ impl Model for Chf {
     ghost view = { machine };
 
     ghost invariant = { HasKept };
+}
+
+fn outcome_in(outcomes: &[Outcome], place: usize) -> Option<&Outcome>
+    ensures { option_copied result ≡ slice_get outcomes.now place }
+{
+    outcomes.get(place)
 }
 
 impl Chf {
@@ -110,7 +116,7 @@ impl Chf {
     pub fn outcome_at(&self, place: u32) -> Option<&Outcome>
         ensures { option_copied result ≡ outcome_at self.now.list place }
     {
-        self.outcomes.get(place as usize)
+        outcome_in(&self.outcomes, place as usize)
     }
 
     /// How many commands there are.

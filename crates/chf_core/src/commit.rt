@@ -1,25 +1,26 @@
 //! What each command's commit writes. Nothing here takes memory.
 ghost use Rattle.std.specs.Prelude.{◌≡◌, ◌<◌, ◌+◌, ◌-◌, ◌^◌, ◌&&◌, ◌∷◌, IfSome, is_some, Some, cond, length};
-ghost use Rattle.std.specs.Prelude.{vec_len, vec_capacity, Option, ℕ};
+ghost use Rattle.std.specs.Prelude.{vec_len, vec_capacity, Option, List as ListSeen, ℕ, IsSome, string_bytes};
+ghost use Rattle.std.specs.HashMap.{get_by_text, spare};
 ghost use Rattle.chf_core.specs.declared.key.Name.{Name as NameSeen};
 ghost use Rattle.chf_core.specs.declared.key.Key.{Key as KeySeen};
 ghost use Rattle.chf_core.specs.declared.decision.Plan.{Plan as PlanSeen};
-ghost use Rattle.chf_core.specs.Operator.{number_in, with_name};
+ghost use Rattle.chf_core.specs.Operator.{name_eq, number_in, with_name};
 ghost use Rattle.chf_core.specs.Sessions.{sessions_after, with_last, write_session, by_reference, name, same_session, id_of, opens_by};
 ghost use Rattle.chf_core.specs.Keys.{key, key_eq};
 ghost use Rattle.chf_core.specs.Effect.{asks_of, rating_by};
 ghost use Rattle.chf_core.specs.Admits.{Admits, cost, containers};
-ghost use Rattle.chf_core.specs.Money.{used};
+ghost use Rattle.chf_core.specs.Money.{used, with_account, topped};
 ghost use Rattle.chf_core.specs.Named.{IsProvided};
 ghost use Rattle.chf_core.specs.KeyTable.{kept_place, kept_reference, AreKnown, room};
-ghost use Rattle.chf_core.specs.Machine.{IsReady, session_by};
+ghost use Rattle.chf_core.specs.Machine.{CanTopUp, IsReady, session_by};
 
 use crate::chf::Chf;
 use crate::command::{Command, Outcome};
 use crate::decision::Copies;
 use crate::effect::use_request;
 use crate::key_table::KeyTable;
-use crate::names::NewName;
+use crate::names::{Names, NewName};
 use crate::numbered::{NumberedKey, NumberedName};
 use crate::reads::{id_of, supi_for};
 use crate::session::Session;
@@ -27,6 +28,7 @@ use crate::setup::ChfSetup;
 use crate::target::{GroupAsk, Target};
 use accounts::Accounts;
 use rating::Tariffs;
+use std::collections::HashMap;
 use units::{List, Moment, Operation, Request, Text};
 
 fn set_last(session: &mut Session, last: u32, is_open: bool)
@@ -110,6 +112,43 @@ fn enter_key(
     }
 }
 
+// Puts a value at a text.
+fn put<V: Drop>(table: &mut HashMap<String, V>, key: String, value: Option<V>)
+    requires room { 0 < spare table.old }
+    requires some { IsSome value }
+    ensures { (text : ListSeen ℕ) → get_by_text table.new text ≡ cond (name_eq (string_bytes key) text) value (get_by_text table.old text) }
+{
+    if let Some(value) = value {
+        let _ = table.insert(key, value);
+    }
+}
+
+// An account comes to be with the first row that names it.
+fn name_account(accounts: &mut Accounts, names: &mut Names, account: &str, new: Option<NewName>)
+    requires spare { 0 < accounts.old.spare }
+    requires few { length accounts.old.state.accounts < 2 ^ 32 - 1 }
+    requires room { 0 < names.old.room }
+    requires provided { IsProvided names.old.list account.now new }
+    ensures accounts { accounts.new.state ≡ with_account accounts.old.state (number_in names.old.list account.now) }
+    ensures names { names.new.list ≡ with_name names.old.list account.now (number_in names.old.list account.now) }
+{
+    if names.find(account).is_none() {
+        let _ = accounts.add();
+        if let Some(new) = new {
+            let _ = names.add(new);
+        }
+    }
+}
+
+fn top_up(accounts: &mut Accounts, account: Option<u32>, amount: u128)
+    requires { IfSome account (λ n. CanTopUp accounts.old.state n amount) }
+    ensures { accounts.new.state ≡ topped accounts.old.state amount account }
+{
+    if let Some(account) = account {
+        accounts.topup(account, amount);
+    }
+}
+
 impl Chf {
     pub(crate) fn commit_setup(&mut self, setup: ChfSetup, outcome: Outcome, copies: Copies)
         requires { IsReady self.old (record { command = Command.Setup setup; outcome = outcome; copies = copies }) }
@@ -131,15 +170,17 @@ impl Chf {
         requires { IsReady self.old (record { command = Command.Subscriber supi account barred; outcome = outcome; copies = copies }) }
         ensures { self.new.list ≡ Command.Subscriber supi account barred ∷ self.old.list }
     {
-        if self.operator.names.find(account.as_str()).is_none() {
-            let _ = self.accounts.add();
-            if let Some(name) = copies.name {
-                let _ = self.operator.names.add(name);
-            }
-        }
-        if let Some(subscription) = copies.subscription {
-            let _ = self.operator.subscribers.insert(copies.key, subscription);
-        }
+        let Copies {
+            key,
+            name,
+            subscription,
+            setup: _setup,
+            sum: _sum,
+            session: _session,
+            asks: _asks,
+        } = copies;
+        name_account(&mut self.accounts, &mut self.operator.names, account.as_str(), name);
+        put(&mut self.operator.subscribers, key, subscription);
         self.commands.push_reserved(Command::Subscriber {
             supi,
             account,
@@ -159,12 +200,18 @@ impl Chf {
         requires { IsReady self.old (record { command = Command.TopUp id account amount; outcome = outcome; copies = copies }) }
         ensures { self.new.list ≡ Command.TopUp id account amount ∷ self.old.list }
     {
-        if let Some(number) = self.operator.names.find(account.as_str()) {
-            self.accounts.topup(number, amount);
-        }
-        if let Some(sum) = copies.sum {
-            let _ = self.operator.topups.insert(copies.key, sum);
-        }
+        let Copies {
+            key,
+            name: _name,
+            subscription: _subscription,
+            setup: _setup,
+            sum,
+            session: _session,
+            asks: _asks,
+        } = copies;
+        let number = self.operator.names.find(account.as_str());
+        top_up(&mut self.accounts, number, amount);
+        put(&mut self.operator.topups, key, sum);
         self.commands.push_reserved(Command::TopUp {
             id,
             account,

@@ -33,6 +33,16 @@ impl Model for Names {
     ghost invariant = { AreNumbered };
 }
 
+// The text at a place.
+fn text_in(texts: &[String], place: usize) -> Option<&str>
+    ensures { option_map (λ t. t.now) result ≡ option_map string_bytes (slice_get texts.now place) }
+{
+    match texts.get(place) {
+        Some(text) => Some(text.as_str()),
+        None => None,
+    }
+}
+
 impl NewName {
     pub fn of(alloc: Global, name: &str) -> Result<NewName, OutOfMemory>
         ensures { IfOk result (λ n. AreOf name.now n) }
@@ -79,10 +89,7 @@ impl Names {
     pub fn name(&self, number: u32) -> Option<&str>
         ensures { option_map (λ t. t.now) result ≡ slice_get (reverse self.now.list) number }
     {
-        match self.texts.get(number as usize) {
-            Some(text) => Some(text.as_str()),
-            None => None,
-        }
+        text_in(&self.texts, number as usize)
     }
 
     /// How many names there are.
