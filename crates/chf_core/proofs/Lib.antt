@@ -12,3 +12,5 @@ pub mod NameLists
 pub mod Consumers
 pub mod Few
 pub mod Kept
+pub mod Following
+pub mod Telling

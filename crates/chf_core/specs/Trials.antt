@@ -26,4 +26,4 @@ pub record Follows (now : ℕ) (standing : ℕ → ℕ) (t : Target) (s : State)
   pub owner : OwnsAll t s
   pub balanced : IsBalanced s t.account
   pub free : now ≡ free s t.account
-  pub lefts : (group : ℕ) → standing group ≡ left s (at t.session group)
+  pub standing_are : (group : ℕ) → standing group ≡ left s (at t.session group)

@@ -41,11 +41,11 @@ fn tell(
     ensures { IfOk result (λ l. l ≡ infos_at tariffs.now barred.now stamp asks.now free) }
 {
     let mut told = List::new(alloc);
-    let mut free = free;
+    let mut rest = free;
     for a in asks {
-        let grant = grant_for(tariffs, barred, free, a);
+        let grant = grant_for(tariffs, barred, rest, a);
         told.push(info_for(alloc, tariffs, stamp, a.group, grant))?;
-        free -= grant.reserve;
+        rest -= grant.reserve;
     }
     Ok(told)
 }
