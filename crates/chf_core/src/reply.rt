@@ -11,6 +11,7 @@ use crate::chf::Chf;
 use crate::grants::{grant_for, info_for};
 use crate::target::GroupAsk;
 use crate::trial::settled_free;
+use accounts::moves_change_free;
 use rating::Tariffs;
 use std::alloc::Global;
 use units::{
@@ -56,6 +57,7 @@ impl Chf {
         requires { length self.now.list < 2 ^ 32 - 1 }
         ensures { IfOk result (λ l. l ≡ infos_for (rating_of self.now.list request.now) request.now (money self.now.list) (target_of self.now.list request.now)) }
     {
+        moves_change_free();
         let Some(t) = self.target_of(request) else {
             return Ok(List::new(alloc));
         };
