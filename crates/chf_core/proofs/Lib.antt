@@ -8,3 +8,7 @@ pub mod Clear
 pub mod Granting
 pub mod Owned
 pub mod Keyed
+mod Moved
+mod Counted
+mod Allowed
+mod Lines

@@ -8,3 +8,6 @@ pub mod Outcomes
 pub mod Laws
 pub mod Admits
 pub mod KeptRequests
+pub mod AccountMoves
+pub mod Ledger
+pub mod MoneyLaws

@@ -1,6 +1,7 @@
 //! What holds of all lists of commands.
 ghost use Rattle.chf_core.specs.KeptRequests.{KeptAreKeyed};
 ghost use Rattle.chf_core.specs.Laws.{FirstOutcomes, FreshAreKept, KeptForGood};
+ghost use Rattle.chf_core.specs.MoneyLaws.{AccountsAreMoved, AccountsBalance, TopupsAreAdded, LedgerIsWhole};
 
 /// A law of all lists of commands; it does nothing. The outcome at a place is the one that its command has from the commands before it; a
 /// request that is kept stays kept at its place, whatever fresh command comes (TS 32.290, 5.3.2; this product's own).
@@ -14,4 +15,22 @@ pub fn replies_stand()
 /// so that the first reply under a number is one (TS 32.290, 5.3.2; this product's own).
 pub fn numbers_are_used_once()
     ensures { KeptAreKeyed }
+{}
+
+/// A law of all lists of commands; it does nothing. Of each account the balance and the ledger's lines are together its top-ups and what it
+/// owes, what is set aside is within the balance, and the top-ups are the sum of the amounts topped up; the accounts are those that the
+/// moves of the commands make, each of which was allowed where it was made (TS 32.290, 5.2.2; this product's own).
+pub fn money_balances()
+    ensures balance { AccountsBalance }
+    ensures topups { TopupsAreAdded }
+    ensures moved { AccountsAreMoved }
+{
+    accounts::accounts_balance();
+    rating::reserves_suffice();
+}
+
+/// A law of all lists of commands; it does nothing. The ledger has one line for each container of each accepted request, in their order, on the
+/// account of the session's Create and with the price of the container's amounts at its first moment (TS 32.290, 5.2.2; this product's own).
+pub fn ledger_is_whole()
+    ensures { LedgerIsWhole }
 {}
