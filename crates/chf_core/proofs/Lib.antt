@@ -12,3 +12,5 @@ mod Moved
 mod Counted
 mod Allowed
 mod Lines
+mod HeldGrant
+mod WithinGrants

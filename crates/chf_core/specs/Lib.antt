@@ -11,3 +11,4 @@ pub mod KeptRequests
 pub mod AccountMoves
 pub mod Ledger
 pub mod MoneyLaws
+pub mod WithinGrant

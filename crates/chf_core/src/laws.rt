@@ -2,6 +2,7 @@
 ghost use Rattle.chf_core.specs.KeptRequests.{KeptAreKeyed};
 ghost use Rattle.chf_core.specs.Laws.{FirstOutcomes, FreshAreKept, KeptForGood};
 ghost use Rattle.chf_core.specs.MoneyLaws.{AccountsAreMoved, AccountsBalance, TopupsAreAdded, LedgerIsWhole};
+ghost use Rattle.chf_core.specs.WithinGrant.{UseWithinGrantsOwesNothing};
 
 /// A law of all lists of commands; it does nothing. The outcome at a place is the one that its command has from the commands before it; a
 /// request that is kept stays kept at its place, whatever fresh command comes (TS 32.290, 5.3.2; this product's own).
@@ -34,3 +35,13 @@ pub fn money_balances()
 pub fn ledger_is_whole()
     ensures { LedgerIsWhole }
 {}
+
+/// A law of all lists of commands; it does nothing. While the latest grant of a session's rating group stands, which neither asked anew nor
+/// gave back since, and the units charged since are together within those granted, no part of what is charged for them is owed
+/// (TS 32.290, 5.2.2; this product's own).
+pub fn use_within_grants_owes_nothing()
+    ensures { UseWithinGrantsOwesNothing }
+{
+    accounts::reservations_hold();
+    rating::reserves_suffice();
+}

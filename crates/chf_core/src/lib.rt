@@ -25,7 +25,10 @@ mod target;
 
 pub use command::{Command, Outcome};
 pub use decision::{Decision, Plan};
-pub use laws::{ledger_is_whole, money_balances, numbers_are_used_once, replies_stand};
+pub use laws::{
+    ledger_is_whole, money_balances, numbers_are_used_once, replies_stand,
+    use_within_grants_owes_nothing,
+};
 pub use refusal::ChfRefusal;
 pub use setup::ChfSetup;
 
