@@ -14,3 +14,4 @@ mod Allowed
 mod Lines
 mod HeldGrant
 mod WithinGrants
+mod Bounded

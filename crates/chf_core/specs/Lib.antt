@@ -12,3 +12,4 @@ pub mod AccountMoves
 pub mod Ledger
 pub mod MoneyLaws
 pub mod WithinGrant
+pub mod Bounds

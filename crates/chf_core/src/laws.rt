@@ -3,6 +3,7 @@ ghost use Rattle.chf_core.specs.KeptRequests.{KeptAreKeyed};
 ghost use Rattle.chf_core.specs.Laws.{FirstOutcomes, FreshAreKept, KeptForGood};
 ghost use Rattle.chf_core.specs.MoneyLaws.{AccountsAreMoved, AccountsBalance, TopupsAreAdded, LedgerIsWhole};
 ghost use Rattle.chf_core.specs.WithinGrant.{UseWithinGrantsOwesNothing};
+ghost use Rattle.chf_core.specs.Bounds.{SumsAreBounded};
 
 /// A law of all lists of commands; it does nothing. The outcome at a place is the one that its command has from the commands before it; a
 /// request that is kept stays kept at its place, whatever fresh command comes (TS 32.290, 5.3.2; this product's own).
@@ -44,4 +45,14 @@ pub fn use_within_grants_owes_nothing()
 {
     accounts::reservations_hold();
     rating::reserves_suffice();
+}
+
+/// A law of all lists of commands; it does nothing. Within this product's limits (octets of a container at most 2^61, a top-up at most 2^80
+/// grains) what an account was charged is at most 2^94 grains for each container of the list, and what was topped up at most 2^80 for each
+/// top-up: no sum passes its type in a list of at most 2^31 of both (this product's own).
+pub fn sums_are_bounded()
+    ensures { SumsAreBounded }
+{
+    rating::prices_are_bounded();
+    money_balances();
 }
