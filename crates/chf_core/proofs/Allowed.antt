@@ -1,5 +1,5 @@
 -- Each move of a list of commands was allowed where it was made.
-use Rattle.std.proofs.Common.{◌≡◌, ◌<◌, ◌≤◌, ◌==◌, ◌||◌, ◌&&◌, ℕ, Bool, true, false, cond, List, [], ◌∷◌, length, Option, Some, None, IfSome, is_some, refl, sym, ap, ◌∙◌, subst, arith}
+use Rattle.std.proofs.Common.{◌≡◌, ◌<◌, ◌≤◌, ◌==◌, ◌||◌, ◌&&◌, ℕ, Bool, true, false, cond, List, [], ◌∷◌, length, Option, Some, None, IfSome, is_some, refl, sym, ◌∙◌, subst, arith}
 use Rattle.std.specs.FinMap as map
 use Rattle.units.specs.declared.request.Operation.{Operation}
 use Rattle.units.specs.declared.request.Operation.TheVariants.{Create, Update, Release}
@@ -9,27 +9,26 @@ use Rattle.units.specs.declared.request.Request.{Request}
 use Rattle.rating.specs.Tariff.{tariff}
 use Rattle.rating.specs.Price.{price}
 use Rattle.rating.specs.Grant.{grant, no_quota}
-use Rattle.rating.specs.declared.grant.Grant.{Grant}
 use Rattle.rating.specs.Laws.{GrantsAreCovered}
 use Rattle.units.specs.declared.answer.Code.TheVariants.{Denied}
 use Rattle.accounts.specs.declared.reservation.Reservation.{Reservation}
 use Rattle.accounts.specs.Reservations.{at}
-use Rattle.accounts.specs.Ledger.{State, free}
-use Rattle.accounts.specs.Moves.{Move, after, Added, ToppedUp, Charged, Reserved, Released, ReleasedAll, Expired, state_of, IsAllowed, AreAllowed}
+use Rattle.accounts.specs.Ledger.{free}
+use Rattle.accounts.specs.Moves.{Move, Charged, Released, state_of, AreAllowed}
 use Rattle.chf_core.specs.declared.target.Target.{Target}
 use Rattle.chf_core.specs.declared.target.GroupAsk.{GroupAsk}
 use Rattle.chf_core.specs.declared.command.Command.{Command}
 use Rattle.chf_core.specs.declared.command.Command.TheVariants.{Setup, Charge, Subscriber, TopUp, Expire}
 use Rattle.chf_core.specs.Operator.{account_number, account_names, bars}
-use Rattle.chf_core.specs.Effect.{Rating, gives_back, asks_of, granted, with_grant, deadline_of, released, charged}
+use Rattle.chf_core.specs.Effect.{Rating, gives_back, asks_of, granted, deadline_of}
 use Rattle.chf_core.specs.Admits.{OwnsAll, AreClear}
 use Rattle.chf_core.specs.Money.{money, rating_of, target_of}
 use Rattle.chf_core.specs.AccountMoves.{charging_used, charging, releasing_one, releasing, granting_one, granting, closing, requested, adding, topping, account_moves}
 use Rattle.chf_core.proofs.Admitted.{owner_lessened, owner_removed, owner_inserted}
 use Rattle.chf_core.proofs.Owned.{owns_all}
 use Rattle.chf_core.proofs.Clear.{asks_clear, clear_granted}
-use Rattle.chf_core.proofs.Moved.{made, made_charged, made_released}
-use Rattle.chf_core.proofs.Counted.{added, accounts_added, added_charged, added_released, names_added, number_within, target_within}
+use Rattle.chf_core.proofs.Moved.{made, made_released}
+use Rattle.chf_core.proofs.Counted.{added, accounts_added, names_added, number_within, target_within}
 
 -- what is set aside for a grant is free
 pub grant_covered : ((rates : List (List (List ℕ))) → GrantsAreCovered rates) → (rating : Rating) (f : ℕ) (a : GroupAsk) → (granted rating f a).reserve ≤ f

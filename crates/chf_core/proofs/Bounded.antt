@@ -1,5 +1,5 @@
 -- The sums of an account are bounded by the containers and top-ups of a list.
-use Rattle.std.proofs.Common.{◌≡◌, ◌≤◌, ◌<◌, ◌==◌, ◌||◌, ℕ, ◌+◌, ◌*◌, ◌^◌, Bool, true, false, cond, List, [], ◌∷◌, ◌++◌, length, map, sum_by, Option, Some, None, is_some, refl, sym, ap, ◌∙◌, subst, arith}
+use Rattle.std.proofs.Common.{◌≡◌, ◌≤◌, ◌==◌, ◌||◌, ℕ, ◌+◌, ◌*◌, ◌^◌, Bool, true, false, cond, List, [], ◌∷◌, length, map, sum_by, Option, Some, None, is_some, refl, ap, ◌∙◌, arith}
 use Rattle.std.proofs.lemmas.List.Sums.{sum_by-cons, sum_by-append}
 use Rattle.units.specs.declared.request.Operation.{Operation}
 use Rattle.units.specs.declared.request.Operation.TheVariants.{Create, Update, Release}
@@ -9,7 +9,7 @@ use Rattle.units.specs.declared.request.Request.{Request}
 use Rattle.rating.specs.Price.{price}
 use Rattle.rating.specs.Laws.{PricesAreBounded}
 use Rattle.accounts.specs.declared.line.Line.{Line}
-use Rattle.accounts.specs.Ledger.{State, numbers, balance, free, line_share, debits}
+use Rattle.accounts.specs.Ledger.{numbers, free, line_share, debits}
 use Rattle.accounts.specs.Moves.{Move, Added, ToppedUp, Charged, Reserved, Released, ReleasedAll, Expired, state_of}
 use Rattle.accounts.specs.Balanced.{IsBalanced, topup_of}
 use Rattle.chf_core.specs.declared.target.Target.{Target}

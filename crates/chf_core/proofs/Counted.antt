@@ -8,17 +8,17 @@ use Rattle.units.specs.declared.request.UnitUsage.{UnitUsage}
 use Rattle.units.specs.declared.request.Request.{Request}
 use Rattle.rating.specs.Price.{price}
 use Rattle.accounts.specs.Reservations.{at}
-use Rattle.accounts.specs.Ledger.{State, Numbers, numbers, free, from_own, from_free, uncovered}
-use Rattle.accounts.specs.Moves.{Move, after, Added, ToppedUp, Charged, Reserved, Released, ReleasedAll, Expired, state_of, topped_up, debited}
+use Rattle.accounts.specs.Ledger.{State, numbers, from_own, from_free, uncovered}
+use Rattle.accounts.specs.Moves.{Move, Added, ToppedUp, Charged, Reserved, Released, ReleasedAll, Expired, state_of, topped_up, debited}
 use Rattle.chf_core.specs.declared.target.Target.{Target}
 use Rattle.chf_core.specs.declared.target.GroupAsk.{GroupAsk}
 use Rattle.chf_core.specs.declared.subscription.Subscription.{Subscription}
 use Rattle.chf_core.specs.declared.session.Session.{Session}
 use Rattle.chf_core.specs.declared.command.Command.{Command}
 use Rattle.chf_core.specs.declared.command.Command.TheVariants.{Setup, Charge, Subscriber, TopUp, Expire}
-use Rattle.chf_core.specs.Operator.{name_eq, number_in, with_name, account_names, account_number, account_of, subscription_of}
+use Rattle.chf_core.specs.Operator.{name_eq, number_in, with_name, account_names, account_number, subscription_of}
 use Rattle.chf_core.specs.Sessions.{sessions, sessions_after, opened, write_session, with_last, by_reference, session_at, account_for, id_of, supi_of}
-use Rattle.chf_core.specs.Effect.{Rating, gives_back, asks_of, granted, deadline_of}
+use Rattle.chf_core.specs.Effect.{Rating, gives_back, asks_of}
 use Rattle.chf_core.specs.Money.{money, rating_of, target_of, target_by, opened_target, named_target}
 use Rattle.chf_core.specs.AccountMoves.{charging_used, charging, releasing_one, releasing, granting_one, granting, closing, requested, adding, topping, account_moves}
 use Rattle.chf_core.proofs.Places.{get_push, get_set}

@@ -12,13 +12,13 @@ use Rattle.rating.specs.declared.grant.Grant.{Grant}
 use Rattle.rating.specs.Price.{price}
 use Rattle.rating.specs.Laws.{units_used}
 use Rattle.accounts.specs.Reservations.{at, key_eq}
-use Rattle.accounts.specs.Ledger.{State, free}
+use Rattle.accounts.specs.Ledger.{free}
 use Rattle.accounts.specs.Moves.{Move, Added, ToppedUp, Charged, Reserved, Released, ReleasedAll, Expired, state_of}
 use Rattle.accounts.specs.Since.{charge_of, charged as charged_since, leaves, all_leave}
 use Rattle.sessions.specs.Kept.{is_release}
 use Rattle.chf_core.specs.declared.target.Target.{Target}
 use Rattle.chf_core.specs.declared.target.GroupAsk.{GroupAsk}
-use Rattle.chf_core.specs.Effect.{Rating, gives_back, granted, with_grant, deadline_of}
+use Rattle.chf_core.specs.Effect.{Rating, gives_back, granted, deadline_of}
 use Rattle.chf_core.specs.Admits.{AreClear, Differ}
 use Rattle.chf_core.specs.AccountMoves.{charging_used, charging, releasing_one, releasing, granting_one, granting, closing}
 use Rattle.chf_core.specs.WithinGrant.{grant_among, ends_grant, units_of_used, units_in}

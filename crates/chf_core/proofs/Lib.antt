@@ -15,3 +15,4 @@ mod Lines
 mod HeldGrant
 mod WithinGrants
 mod Bounded
+mod FirstReplies

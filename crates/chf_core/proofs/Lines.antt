@@ -1,6 +1,5 @@
 -- The lines are one for each container of each accepted request.
-use Rattle.std.proofs.Common.{◌≡◌, ◌||◌, ℕ, Bool, true, false, cond, List, [], ◌∷◌, ◌++◌, map, Option, Some, None, is_some, refl, sym, ap, ◌∙◌}
-use Rattle.std.specs.List.{flat_map}
+use Rattle.std.proofs.Common.{◌≡◌, ◌||◌, ℕ, Bool, true, false, cond, List, [], ◌∷◌, ◌++◌, map, Option, Some, None, is_some, refl, ap, ◌∙◌}
 use Rattle.units.specs.declared.request.Operation.{Operation}
 use Rattle.units.specs.declared.request.Operation.TheVariants.{Create, Update, Release}
 use Rattle.units.specs.declared.request.Used.{Used}
@@ -15,7 +14,7 @@ use Rattle.chf_core.specs.declared.target.GroupAsk.{GroupAsk}
 use Rattle.chf_core.specs.declared.command.Command.{Command}
 use Rattle.chf_core.specs.declared.command.Command.TheVariants.{Setup, Charge, Subscriber, TopUp, Expire}
 use Rattle.chf_core.specs.Operator.{account_number}
-use Rattle.chf_core.specs.Effect.{Rating, charged_used, charged, gives_back, released, released_one, granted, with_grant, with_grants, closed_by, asks_of, settled, used_by}
+use Rattle.chf_core.specs.Effect.{Rating, charged_used, charged, gives_back, released, released_one, granted, with_grant, with_grants, closed_by, asks_of, settled}
 use Rattle.chf_core.specs.Money.{money, used, rating_of, target_of, topped, with_account}
 use Rattle.chf_core.specs.Ledger.{line_of, lines_of, lines_for, ledger}
 

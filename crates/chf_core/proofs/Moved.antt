@@ -1,19 +1,19 @@
 -- The accounts are those that the moves of the commands make.
-use Rattle.std.proofs.Common.{◌≡◌, ◌||◌, ℕ, Bool, true, false, cond, List, [], ◌∷◌, Option, Some, None, is_some, refl, sym, ap, ◌∙◌}
+use Rattle.std.proofs.Common.{◌≡◌, ◌||◌, ℕ, Bool, true, false, cond, List, [], ◌∷◌, Option, Some, None, is_some, refl, ap, ◌∙◌}
 use Rattle.units.specs.declared.request.Operation.{Operation}
 use Rattle.units.specs.declared.request.Operation.TheVariants.{Create, Update, Release}
 use Rattle.units.specs.declared.request.Used.{Used}
 use Rattle.units.specs.declared.request.UnitUsage.{UnitUsage}
 use Rattle.units.specs.declared.request.Request.{Request}
 use Rattle.rating.specs.Price.{price}
-use Rattle.accounts.specs.Ledger.{State, free}
-use Rattle.accounts.specs.Moves.{Move, after, Added, ToppedUp, Charged, Reserved, Released, Expired, ReleasedAll, state_of}
+use Rattle.accounts.specs.Ledger.{State}
+use Rattle.accounts.specs.Moves.{Move, after, Charged, Released, Expired, state_of}
 use Rattle.chf_core.specs.declared.target.Target.{Target}
 use Rattle.chf_core.specs.declared.target.GroupAsk.{GroupAsk}
 use Rattle.chf_core.specs.declared.command.Command.{Command}
 use Rattle.chf_core.specs.declared.command.Command.TheVariants.{Setup, Charge, Subscriber, TopUp, Expire}
 use Rattle.chf_core.specs.Operator.{account_number}
-use Rattle.chf_core.specs.Effect.{Rating, charged_used, charged, gives_back, released, released_one, granted, with_grant, with_grants, deadline_of, closed_by, asks_of, settled}
+use Rattle.chf_core.specs.Effect.{Rating, charged_used, charged, gives_back, released, released_one, with_grants, closed_by, asks_of, settled}
 use Rattle.chf_core.specs.Money.{money, used, rating_of, target_of, topped, with_account}
 use Rattle.chf_core.specs.AccountMoves.{charging_used, charging, releasing_one, releasing, granting_one, granting, closing, requested, adding, topping, account_moves}
 

@@ -2,9 +2,8 @@
 use Rattle.std.proofs.Common.{◌≡◌, ◌≤◌, ◌==◌, ◌&&◌, ◌||◌, not, ℕ, ◌+◌, ◌-◌, ◌*◌, Bool, true, false, cond, List, [], ◌∷◌, ◌++◌, Option, Some, None, is_some, refl, sym, ap, ◌∙◌, subst, arith}
 use Rattle.std.proofs.lemmas.Bool.Decides.{nat_tests}
 use Rattle.std.specs.List.{list_any}
-use Rattle.units.specs.declared.answer.Code.TheVariants.{Success, Denied, NotApplicable, RatingFailed}
+use Rattle.units.specs.declared.answer.Code.TheVariants.{Success, Denied, NotApplicable}
 use Rattle.units.specs.declared.request.Ask.{Ask}
-use Rattle.units.specs.declared.request.Operation.{Operation}
 use Rattle.units.specs.declared.request.Used.{Used}
 use Rattle.units.specs.declared.request.UnitUsage.{UnitUsage}
 use Rattle.units.specs.declared.request.Request.{Request}
@@ -15,10 +14,10 @@ use Rattle.rating.specs.Grammar.{first_bad}
 use Rattle.rating.specs.Price.{price}
 use Rattle.rating.specs.Grant.{grant, no_quota, granted as granted_by_tariff, is_managed, top_price, quota, wish_of, asked}
 use Rattle.rating.specs.Laws.{units_used, ReservesSuffice}
-use Rattle.accounts.specs.Reservations.{at, key_eq}
+use Rattle.accounts.specs.Reservations.{at}
 use Rattle.accounts.specs.Ledger.{State, free, uncovered}
-use Rattle.accounts.specs.Moves.{Move, Added, ToppedUp, Charged, Reserved, Released, ReleasedAll, Expired, state_of}
-use Rattle.accounts.specs.Since.{leaves, OwesNothing}
+use Rattle.accounts.specs.Moves.{Move, state_of}
+use Rattle.accounts.specs.Since.{OwesNothing}
 use Rattle.accounts.specs.Endings.{is_passed}
 use Rattle.sessions.specs.Kept.{is_release}
 use Rattle.chf_core.specs.declared.target.Target.{Target}
@@ -26,11 +25,11 @@ use Rattle.chf_core.specs.declared.target.GroupAsk.{GroupAsk}
 use Rattle.chf_core.specs.declared.command.Command.{Command}
 use Rattle.chf_core.specs.declared.command.Command.TheVariants.{Setup, Charge, Subscriber, TopUp, Expire}
 use Rattle.chf_core.specs.Operator.{account_number, setup_of, bars}
-use Rattle.chf_core.specs.Effect.{Rating, gives_back, mentions, first_ask, asking, asks_after, asks_of, granted, with_grant, deadline_of, settled, charged_used, charged, released}
+use Rattle.chf_core.specs.Effect.{Rating, gives_back, mentions, first_ask, asking, asks_after, asks_of, granted, with_grant, deadline_of, settled, charged_used, charged}
 use Rattle.chf_core.specs.Admits.{AreClear, Differ}
 use Rattle.chf_core.specs.Money.{money, rates_in, rating_of, target_of}
-use Rattle.chf_core.specs.AccountMoves.{charging_used, charging, releasing, granting, closing, requested, adding, topping, account_moves}
-use Rattle.chf_core.specs.WithinGrant.{grant_among, grant_in, IsGranted, ends_grant, request_leaves, command_leaves, grant_stands, units_of_used, units_in, units_for, units_since, owed_of}
+use Rattle.chf_core.specs.AccountMoves.{charging_used, charging, releasing, granting, requested, adding, topping, account_moves}
+use Rattle.chf_core.specs.WithinGrant.{grant_among, IsGranted, ends_grant, request_leaves, grant_stands, units_of_used, units_in, units_for, units_since, owed_of}
 use Rattle.chf_core.proofs.Clear.{asks_clear}
 use Rattle.chf_core.proofs.Moved.{made, made_used, made_charged, made_released, made_settled}
 use Rattle.chf_core.proofs.HeldGrant.{Held, as_many, own_charged, other_charged, own_released, other_released, own_granted, other_granted, own_closed, other_closed, kept_added, kept_topped, kept_expired, granted_here, own_used}

@@ -1,5 +1,5 @@
 -- How large the sums of an account come, over lists of commands within this product's limits (this product's own).
-use Rattle.std.specs.Prelude.{ℕ, ◌+◌, ◌*◌, ◌^◌, ◌≤◌, ◌<◌, List, [], ◌∷◌, Option, Some, None}
+use Rattle.std.specs.Prelude.{ℕ, ◌+◌, ◌*◌, ◌^◌, ◌≤◌, ◌<◌, List, [], ◌∷◌}
 use Rattle.units.specs.declared.request.Used.{Used}
 use Rattle.units.specs.declared.request.UnitUsage.{UnitUsage}
 use Rattle.accounts.specs.Ledger.{numbers}

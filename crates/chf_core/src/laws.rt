@@ -1,5 +1,5 @@
 //! What holds of all lists of commands.
-ghost use Rattle.chf_core.specs.KeptRequests.{KeptAreKeyed};
+ghost use Rattle.chf_core.specs.KeptRequests.{KeptAreKeyed, RepeatsGetFirstReplies};
 ghost use Rattle.chf_core.specs.Laws.{FirstOutcomes, FreshAreKept, KeptForGood};
 ghost use Rattle.chf_core.specs.MoneyLaws.{AccountsAreMoved, AccountsBalance, TopupsAreAdded, LedgerIsWhole};
 ghost use Rattle.chf_core.specs.WithinGrant.{UseWithinGrantsOwesNothing};
@@ -11,6 +11,12 @@ pub fn replies_stand()
     ensures first { FirstOutcomes }
     ensures fresh { FreshAreKept }
     ensures kept { KeptForGood }
+{}
+
+/// A law of all lists of commands; it does nothing. A request that is kept gets the first reply that its session has under its number, to a
+/// request of its content (TS 32.290, 5.3.2; keeping first replies is this product's own).
+pub fn repeats_get_first_replies()
+    ensures { RepeatsGetFirstReplies }
 {}
 
 /// A law of all lists of commands, each of which was fresh at its place; it does nothing. No two kept requests of a session have one number,

@@ -26,8 +26,8 @@ mod target;
 pub use command::{Command, Outcome};
 pub use decision::{Decision, Plan};
 pub use laws::{
-    ledger_is_whole, money_balances, numbers_are_used_once, replies_stand, sums_are_bounded,
-    use_within_grants_owes_nothing,
+    ledger_is_whole, money_balances, numbers_are_used_once, repeats_get_first_replies,
+    replies_stand, sums_are_bounded, use_within_grants_owes_nothing,
 };
 pub use refusal::ChfRefusal;
 pub use setup::ChfSetup;

@@ -1,4 +1,4 @@
-use Rattle.std.proofs.Common.{◌≡◌, sym, subst, ap, ◌∙◌}
+use Rattle.std.proofs.Common.{sym, subst, ap, ◌∙◌}
 use Rattle.accounts.specs.Ledger.{State, numbers}
 use Rattle.accounts.specs.Balanced.{IsBalanced}
 use Rattle.chf_core.specs.AccountMoves.{account_moves}
