@@ -28,7 +28,7 @@ in_number q (Some s) k e = by_test (name_eq s.consumer q.consumer) e
     by_test true w = let h : key q.consumer s.charging_id q.number ≡ k = cc in sym (ap (λ (j : Key). j.number) h)
     by_test false w = absurd (cc)
 
-own_number : (a : List Command) (q : Request) (k : Key) → key_of a q ≡ Some k → k.number ≡ q.number
+pub own_number : (a : List Command) (q : Request) (k : Key) → key_of a q ≡ Some k → k.number ≡ q.number
 own_number a q k = by_op q.operation
   where
     by_op : (o : Operation) → key_by o a q ≡ Some k → k.number ≡ q.number

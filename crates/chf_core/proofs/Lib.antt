@@ -15,3 +15,11 @@ pub mod Kept
 pub mod Following
 pub mod Telling
 pub mod Charging
+mod Moved
+mod Counted
+mod Allowed
+mod Lines
+mod HeldGrant
+mod WithinGrants
+mod Bounded
+mod FirstReplies

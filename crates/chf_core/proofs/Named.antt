@@ -129,7 +129,7 @@ key_stays c a q k = by_op q.operation
     by_op (Update r) e = at r e
     by_op (Release r) e = at r e
 
-place_within : (a : List Command) (k : Key) (i : ℕ) → place_of a k ≡ Some i → i < length a
+pub place_within : (a : List Command) (k : Key) (i : ℕ) → place_of a k ≡ Some i → i < length a
 place_within [] k i e = absurd (cc)
 place_within (Setup p ∷ a) k i e = let h = place_within a k i e in omega arith
 place_within (Charge q ∷ a) k i e = by_test (is_key (key_of a q) k) (place_within a k i) e
@@ -179,11 +179,11 @@ place_stays (TopUp j u x) a k i o e f = e
 place_stays (Expire m) a k i o e f = e
 
 -- what a repeat finds
-record Found (a : List Command) (q : Request) (i : ℕ) : Type 0 where
-  k : Key
-  has : key_of a q ≡ Some k
-  stands : place_of a k ≡ Some i
-  same : is_repeat q (command_at a i) ≡ true
+pub record Found (a : List Command) (q : Request) (i : ℕ) : Type 0 where
+  pub k : Key
+  pub has : key_of a q ≡ Some k
+  pub stands : place_of a k ≡ Some i
+  pub same : is_repeat q (command_at a i) ≡ true
 
 found_again : (a : List Command) (q : Request) (i : ℕ) → Found a q i → decision a (Charge q) ≡ Kept i
 found_again a q i f = ap (at_key a q) f.has ∙ ap (at_place a q (named_by q.operation a q)) f.stands ∙ ap (at_kept i (last_of (named_by q.operation a q))) f.same
@@ -214,7 +214,7 @@ no_new a q i Create s e = no_create a q i s e
 no_new a q i (Update r) s e = no_later a q i s e
 no_new a q i (Release r) s e = no_later a q i s e
 
-found_from : (a : List Command) (q : Request) (i : ℕ) → decision a (Charge q) ≡ Kept i → Found a q i
+pub found_from : (a : List Command) (q : Request) (i : ℕ) → decision a (Charge q) ≡ Kept i → Found a q i
 found_from a q i = by_key (key_of a q) refl
   where
     by_repeat : (k : Key) (j : ℕ) (b : Bool) → key_of a q ≡ Some k → place_of a k ≡ Some j → is_repeat q (command_at a j) ≡ b → at_kept j (last_of (named_by q.operation a q)) b ≡ Kept i → Found a q i

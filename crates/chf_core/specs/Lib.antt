@@ -16,3 +16,8 @@ pub mod Cached
 pub mod Caches
 pub mod Trials
 pub mod TrialKept
+pub mod AccountMoves
+pub mod Ledger
+pub mod MoneyLaws
+pub mod WithinGrant
+pub mod Bounds

@@ -38,7 +38,10 @@ mod verdict;
 pub use chf::Chf;
 pub use command::{Command, Outcome};
 pub use decision::{Decision, Plan};
-pub use laws::{numbers_are_used_once, replies_stand};
+pub use laws::{
+    ledger_is_whole, money_balances, numbers_are_used_once, repeats_get_first_replies,
+    replies_stand, sums_are_bounded, use_within_grants_owes_nothing,
+};
 pub use refusal::ChfRefusal;
 pub use setup::ChfSetup;
 

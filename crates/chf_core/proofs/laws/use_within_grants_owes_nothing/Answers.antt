@@ -1,0 +1,5 @@
+use Rattle.chf_core.proofs.WithinGrants.{use_owes_nothing}
+use Rattle.chf_core.proofs.laws.use_within_grants_owes_nothing.Goals as goal
+
+pub returns : goal.returns
+returns c = use_owes_nothing c.reserves_suffice.ensures.pay c.reservations_hold.ensures.owed
