@@ -2,6 +2,8 @@
 #![tactic(auto)]
 
 mod asks;
+#[cfg(test)]
+mod cases;
 mod chf;
 mod command;
 mod commit;
@@ -30,6 +32,8 @@ mod refusal;
 mod reply;
 mod session;
 mod setup;
+#[cfg(test)]
+mod steps;
 mod subscription;
 mod target;
 mod trial;
