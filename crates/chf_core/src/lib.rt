@@ -30,6 +30,8 @@ mod plan;
 mod reads;
 mod refusal;
 mod reply;
+#[cfg(test)]
+mod said;
 mod session;
 mod setup;
 #[cfg(test)]
@@ -38,6 +40,8 @@ mod subscription;
 mod target;
 mod trial;
 mod verdict;
+#[cfg(test)]
+mod words;
 
 pub use chf::Chf;
 pub use command::{Command, Outcome};

@@ -1,7 +1,8 @@
 use crate::cases::{ACCOUNTS, ARREARS, DAY, DEADLINES, GROUPS, NAMES};
 use crate::chf::Chf;
 use crate::command::Outcome;
-use crate::steps::{run, run_plain, setup, take, told};
+use crate::steps::{run, run_plain, take};
+use crate::words::{setup, told};
 use std::alloc::Global;
 use std::test::Fail;
 use units::{Amount, Answer, Code, List, Moment, Reply, UnitInfo};
