@@ -65,18 +65,22 @@ fn container(alloc: Global, group: u32, word: &str) -> Result<Used, Fail> {
     let [lsn, up, down, seconds, at, trigger] = fields.as_slice() else {
         return Err(Fail::from(word));
     };
+    let lsn = short(lsn)?;
+    let (up, down) = (long(up)?, long(down)?);
+    let seconds = short(seconds)?;
+    let first = moment(at)?;
     let mut triggers = List::new(alloc);
     triggers.push(text(alloc, trigger)?)?;
     Ok(Used {
-        lsn: short(lsn)?,
+        lsn,
         group,
-        up: long(up)?,
-        down: long(down)?,
-        seconds: short(seconds)?,
-        first: moment(at)?,
-        last: Moment::new(Moment::LAST).unwrap_or(Moment::first()),
+        up,
+        down,
+        seconds,
+        first,
+        last: Moment::new(Moment::LAST).unwrap_or(first),
         triggers,
-        moment: moment(at)?,
+        moment: first,
     })
 }
 
@@ -136,30 +140,59 @@ fn entries(alloc: Global, words: &[&str]) -> Result<List<UnitUsage>, Fail> {
     Ok(usage)
 }
 
+// A request, from its number and time stamp on.
 fn request(
     alloc: Global,
     operation: Operation,
     consumer: &str,
     subscriber: Option<Text>,
     charging_id: Option<u32>,
-    number: &str,
-    stamp: &str,
-    usage: &[&str],
+    words: &[&str],
 ) -> Result<Command, Fail> {
+    let [number, stamp, usage @ ..] = words else {
+        return Err(Fail::from(consumer));
+    };
+    let number = short(number)?;
+    let stamp = moment(stamp)?;
+    let consumer = text(alloc, consumer)?;
+    let usage = entries(alloc, usage)?;
     Ok(Command::Charge {
         request: Request {
             operation,
-            consumer: text(alloc, consumer)?,
+            consumer,
             subscriber,
             charging_id,
-            number: short(number)?,
-            stamp: moment(stamp)?,
+            number,
+            stamp,
             again: false,
             notify: None,
-            usage: entries(alloc, usage)?,
+            usage,
             triggers: List::new(alloc),
         },
     })
+}
+
+fn create(alloc: Global, words: &[&str]) -> Result<Command, Fail> {
+    let [consumer, supi, id, rest @ ..] = words else {
+        return Err(Fail::from("create"));
+    };
+    let id = short(id)?;
+    let subscriber = subscriber(alloc, supi)?;
+    request(
+        alloc,
+        Operation::Create,
+        consumer,
+        subscriber,
+        Some(id),
+        rest,
+    )
+}
+
+fn later(alloc: Global, operation: Operation, words: &[&str]) -> Result<Command, Fail> {
+    let [consumer, rest @ ..] = words else {
+        return Err(Fail::from("request"));
+    };
+    request(alloc, operation, consumer, None, None, rest)
 }
 
 fn subscriber(alloc: Global, word: &str) -> Result<Option<Text>, Fail> {
@@ -178,73 +211,84 @@ fn groups(alloc: Global, words: &[&str]) -> Result<List<u32>, Fail> {
     Ok(groups)
 }
 
-fn operator_command(alloc: Global, words: &[&str]) -> Result<Command, Fail> {
-    match words {
-        ["sub", supi, account, barred @ ..] => Ok(Command::Subscriber {
-            supi: text(alloc, supi)?,
-            account: text(alloc, account)?,
-            barred: groups(alloc, barred)?,
+fn subscription(alloc: Global, words: &[&str]) -> Result<Command, Fail> {
+    let [supi, account, barred @ ..] = words else {
+        return Err(Fail::from("sub"));
+    };
+    let supi = text(alloc, supi)?;
+    let account = text(alloc, account)?;
+    let barred = groups(alloc, barred)?;
+    Ok(Command::Subscriber {
+        supi,
+        account,
+        barred,
+    })
+}
+
+fn topup(alloc: Global, words: &[&str]) -> Result<Command, Fail> {
+    let [id, account, amount] = words else {
+        return Err(Fail::from("top"));
+    };
+    let amount = wide(amount)?;
+    let id = text(alloc, id)?;
+    let account = text(alloc, account)?;
+    Ok(Command::TopUp {
+        id,
+        account,
+        amount,
+    })
+}
+
+fn command_of(
+    alloc: Global,
+    kind: &str,
+    first: &str,
+    words: &[&str],
+    rest: &[&str],
+) -> Result<Command, Fail> {
+    match kind {
+        "sub" => subscription(alloc, words),
+        "top" => topup(alloc, words),
+        "expire" => Ok(Command::Expire {
+            moment: moment(first)?,
         }),
-        ["top", id, account, amount] => Ok(Command::TopUp {
-            id: text(alloc, id)?,
-            account: text(alloc, account)?,
-            amount: wide(amount)?,
-        }),
-        ["expire", at] => Ok(Command::Expire {
-            moment: moment(at)?,
-        }),
-        _ => Err(Fail::from("no command")),
+        "create" => create(alloc, words),
+        "update" => later(alloc, Operation::Update(short(first)?), rest),
+        "release" => later(alloc, Operation::Release(short(first)?), rest),
+        _ => Err(Fail::from(kind)),
     }
 }
 
 fn command(alloc: Global, words: &[&str]) -> Result<Command, Fail> {
-    match words {
-        ["create", consumer, supi, id, number, stamp, usage @ ..] => request(
-            alloc,
-            Operation::Create,
-            consumer,
-            subscriber(alloc, supi)?,
-            Some(short(id)?),
-            number,
-            stamp,
-            usage,
-        ),
-        ["update", reference, consumer, number, stamp, usage @ ..] => request(
-            alloc,
-            Operation::Update(short(reference)?),
-            consumer,
-            None,
-            None,
-            number,
-            stamp,
-            usage,
-        ),
-        ["release", reference, consumer, number, stamp, usage @ ..] => request(
-            alloc,
-            Operation::Release(short(reference)?),
-            consumer,
-            None,
-            None,
-            number,
-            stamp,
-            usage,
-        ),
-        _ => operator_command(alloc, words),
+    let [kind, after @ ..] = words else {
+        return Err(Fail::from("no command"));
+    };
+    let [first, rest @ ..] = after else {
+        return Err(Fail::from(*kind));
+    };
+    command_of(alloc, kind, first, after, rest)
+}
+
+fn marked(command: Command) -> Command {
+    match command {
+        Command::Charge { mut request } => {
+            request.again = true;
+            Command::Charge { request }
+        }
+        other => other,
     }
 }
 
 /// A command; `again` before a request is its mark.
 pub fn told(alloc: Global, line: &str) -> Result<Command, Fail> {
     let words = words_of(alloc, line)?;
-    match words.as_slice() {
-        ["again", rest @ ..] => match command(alloc, rest)? {
-            Command::Charge { mut request } => {
-                request.again = true;
-                Ok(Command::Charge { request })
-            }
-            other => Ok(other),
-        },
-        words => command(alloc, words),
+    let [first, rest @ ..] = words.as_slice() else {
+        return Err(Fail::from(line));
+    };
+    if *first == "again" {
+        Ok(marked(command(alloc, rest)?))
+    } else {
+        command(alloc, words.as_slice())
     }
 }
 
