@@ -2,6 +2,8 @@
 #![tactic(auto)]
 
 mod asks;
+#[cfg(test)]
+mod cases;
 mod chf;
 mod command;
 mod commit;
@@ -28,12 +30,18 @@ mod plan;
 mod reads;
 mod refusal;
 mod reply;
+#[cfg(test)]
+mod said;
 mod session;
 mod setup;
+#[cfg(test)]
+mod steps;
 mod subscription;
 mod target;
 mod trial;
 mod verdict;
+#[cfg(test)]
+mod words;
 
 pub use chf::Chf;
 pub use command::{Command, Outcome};
