@@ -2,3 +2,12 @@ pub mod PutAll
 pub mod Agreement
 pub mod Runs
 pub mod Later
+pub mod Lifting
+pub mod TraceLaws
+pub mod Placed
+pub mod Counted
+pub mod Frozen
+pub mod Held
+pub mod Entries
+pub mod Effects
+pub mod Traces

@@ -8,3 +8,5 @@ pub mod Machine
 pub mod Plan
 pub mod Trace
 pub mod Forward
+pub mod Places
+pub mod History

@@ -4,7 +4,9 @@ ghost use Rattle.smf_core.specs.declared.setup.SmfSetup.{SmfSetup};
 ghost use Rattle.smf_core.specs.declared.event.SmfEvent.{SmfEvent};
 ghost use Rattle.smf_core.specs.Machine.{machine_after, session_of};
 ghost use Rattle.smf_core.specs.Forward.{IsLaterSession};
+ghost use Rattle.sessions.specs.Trace.{IsTrace};
 ghost use Rattle.smf_core.specs.Trace.{trace, AgreesWith};
+ghost use Rattle.smf_core.specs.Places.{StandsAsMoved};
 
 /// A law of events; it does nothing. After any events each session is as its moves leave it: its requests are numbered 1, 2, 3, each
 /// after the first was frozen after a success of the one before, and the unanswered one is the newest (TS 32.290, 5.3.2).
@@ -16,4 +18,18 @@ pub fn requests_in_order()
 /// waiting, frozen, then answered or given up, so what is answered or given up stays so (this product's own).
 pub fn places_go_on()
     ensures { (setup : SmfSetup) (more events : List SmfEvent) (number : ℕ) → IsLaterSession (session_of number (machine_after setup events).sessions) (session_of number (machine_after setup (more ++ events)).sessions) }
+{}
+
+/// A law of events; it does nothing. After any events each move of a session is one that may come after those before it: a container is
+/// closed once; a request is frozen only where nothing is unanswered, and holds containers that wait, each once, so that no container is
+/// in two requests; what is given up as too much waits; a reply comes only to an unanswered request (TS 32.290, 5.3.2).
+pub fn moves_may_follow()
+    ensures { (setup : SmfSetup) (events : List SmfEvent) (number : ℕ) → IsTrace (trace setup events number) }
+{}
+
+/// A law of events; it does nothing. After any events the containers of a session are numbered 1, 2, 3, and each is where the moves of
+/// the session say, with what closed it and when: open until it is closed; then given up, with the cause; else waiting, where no request
+/// has it; else frozen, where no request with a final success has it; else answered (this product's own).
+pub fn places_by_moves()
+    ensures { (setup : SmfSetup) (events : List SmfEvent) (number : ℕ) → StandsAsMoved (trace setup events number) (session_of number (machine_after setup events).sessions) }
 {}
