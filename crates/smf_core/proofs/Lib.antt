@@ -11,3 +11,5 @@ pub mod Held
 pub mod Entries
 pub mod Effects
 pub mod Traces
+pub mod Limits
+pub mod Prefixes

@@ -10,3 +10,5 @@ pub mod Trace
 pub mod Forward
 pub mod Places
 pub mod History
+pub mod Limits
+pub mod Prefixes

@@ -6,7 +6,10 @@ ghost use Rattle.smf_core.specs.Machine.{machine_after, session_of};
 ghost use Rattle.smf_core.specs.Forward.{IsLaterSession};
 ghost use Rattle.sessions.specs.Trace.{IsTrace};
 ghost use Rattle.smf_core.specs.Trace.{trace, AgreesWith};
+ghost use Rattle.smf_core.specs.declared.session.Holding.{Holding};
 ghost use Rattle.smf_core.specs.Places.{StandsAsMoved};
+ghost use Rattle.smf_core.specs.Prefixes.{AreStanding};
+ghost use Rattle.smf_core.specs.Limits.{WaitsAtMost, IsExcess};
 
 /// A law of events; it does nothing. After any events each session is as its moves leave it: its requests are numbered 1, 2, 3, each
 /// after the first was frozen after a success of the one before, and the unanswered one is the newest (TS 32.290, 5.3.2).
@@ -32,4 +35,18 @@ pub fn moves_may_follow()
 /// has it; else frozen, where no request with a final success has it; else answered (this product's own).
 pub fn places_by_moves()
     ensures { (setup : SmfSetup) (events : List SmfEvent) (number : ℕ) → StandsAsMoved (trace setup events number) (session_of number (machine_after setup events).sessions) }
+{}
+
+/// A law of events; it does nothing. What events did to a session stands whatever events come after them; so each request, its number and
+/// what it holds depend only on the events up to its freezing (this product's own).
+pub fn requests_stand()
+    ensures { (setup : SmfSetup) (more events : List SmfEvent) (number : ℕ) → AreStanding setup more events number }
+{}
+
+/// A law of events; it does nothing. After any events at most the setup's greatest number of closed containers wait. What is given up as
+/// too much are the oldest: a waiting container is given up exactly where more than that number wait whose numbers are at least its own
+/// (this product's own).
+pub fn few_wait()
+    ensures few { (setup : SmfSetup) (events : List SmfEvent) (number : ℕ) → WaitsAtMost setup.held_max (session_of number (machine_after setup events).sessions) }
+    ensures oldest { (most : ℕ) (holdings : List Holding) → IsExcess most holdings }
 {}

@@ -19,7 +19,9 @@ mod step;
 mod traffic;
 
 pub use event::SmfEvent;
-pub use laws::{moves_may_follow, places_by_moves, places_go_on, requests_in_order};
+pub use laws::{
+    few_wait, moves_may_follow, places_by_moves, places_go_on, requests_in_order, requests_stand,
+};
 pub use plain::{plain_after, plain_step};
 pub use plan::{Next, SmfPlan};
 pub use refusal::{Seen, SmfRefusal};
