@@ -281,7 +281,7 @@ swapped_one m x h = at (is_open h.place) (is_frozen h.place) refl refl
         ap (close_any m x) done ∙ sym done ∙ sym (ap answer_holding (close_same m x h o))
     at false false o e = ap (close_any m x) (answer_same h e) ∙ close_same m x h o ∙ sym (ap answer_holding (close_same m x h o) ∙ answer_same h e)
 
-swapped : (m : ℕ) (x : TriggerType) (hs : List Holding) → map (close_any m x) (map answer_holding hs) ≡ map answer_holding (map (close_any m x) hs)
+pub swapped : (m : ℕ) (x : TriggerType) (hs : List Holding) → map (close_any m x) (map answer_holding hs) ≡ map answer_holding (map (close_any m x) hs)
 swapped m x [] = refl
 swapped m x (h ∷ hs) = ap (λ y. y ∷ map (close_any m x) (map answer_holding hs)) (swapped_one m x h) ∙ ap (λ ys. answer_holding (close_any m x h) ∷ ys) (swapped m x hs)
 

@@ -214,7 +214,7 @@ entries_gone p g (e ∷ es) fails = at (p e) (g == e.number) refl refl (entries_
     at true false px is k = let none : one_if (g == e.number) ≡ 0 = ap one_if is in omega (arith, k, none)
     at false b px is k = k
 
-found_number : (group : ℕ) (es : List Entry) → (or_new group (entry_of group es)).number ≡ group
+pub found_number : (group : ℕ) (es : List Entry) → (or_new group (entry_of group es)).number ≡ group
 found_number group [] = refl
 found_number group (x ∷ es) = at (x.number == group) refl (found_number group es)
   where

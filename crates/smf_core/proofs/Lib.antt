@@ -13,3 +13,8 @@ pub mod Effects
 pub mod Traces
 pub mod Limits
 pub mod Prefixes
+pub mod Lookups
+pub mod Lasts
+pub mod Reported
+pub mod Recounted
+pub mod ReportRuns

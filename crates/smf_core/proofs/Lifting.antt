@@ -68,20 +68,23 @@ is_new (Detach session abnormal moment) m number s found is new = own_answer num
 is_new (Answered session place reply) m number s found is new = own_answer number session m.sessions s (reply_answer place reply) found is new
 
 -- a session that is not there has no history
-abbrev pub With : {X : Type 0} → (List X → Session → Type 0) → List X → Option Session → Type 0
-With P t None = t ≡ []
-With P t (Some s) = P t s
+abbrev pub WithBoth : {X Y : Type 0} → (List X → List Y → Session → Type 0) → List X → List Y → Option Session → Type 0
+WithBoth P t u None = (t ≡ []) × (u ≡ [])
+WithBoth P t u (Some s) = P t u s
 
--- each new event keeps it, and a new session has it
-pub record IsKept {X : Type 0} (setup : SmfSetup) (P : List X → Session → Type 0) (brings : Brings X) : Type 0 where
-  pub next : (now number : ℕ) (event : SmfEvent) (s : Session) (t : List X) → (s.number == number) ≡ true → IsNew event s → P t s → P (brings setup now number event (Some s) ++ t) (next_session setup now event s)
-  pub added : (now number : ℕ) (event : SmfEvent) → With P (brings setup now number event None ++ []) (session_of number (added_by setup now event))
+-- each new event keeps it of two histories, and a new session has it
+pub record AreKept {X Y : Type 0} (setup : SmfSetup) (P : List X → List Y → Session → Type 0) (brings : Brings X) (also : Brings Y) : Type 0 where
+  pub next : (now number : ℕ) (event : SmfEvent) (s : Session) (t : List X) (u : List Y) → (s.number == number) ≡ true → IsNew event s → P t u s
+      → P (brings setup now number event (Some s) ++ t) (also setup now number event (Some s) ++ u) (next_session setup now event s)
+  pub added : (now number : ℕ) (event : SmfEvent) → WithBoth P (brings setup now number event None ++ []) (also setup now number event None ++ []) (session_of number (added_by setup now event))
 
-step_session : {X : Type 0} (setup : SmfSetup) (P : List X → Session → Type 0) (brings : Brings X) → IsKept setup P brings → (now number : ℕ) (event : SmfEvent) (t : List X) (o : Option Session) → FoundIs number o
-    → ((s : Session) → o ≡ Some s → IsNew event s) → With P t o → With P (brings setup now number event o ++ t) (after_found (next_session setup now event) (session_of number (added_by setup now event)) o)
-step_session setup P brings kept now number event t None is new h =
-    subst (λ l. With P (brings setup now number event None ++ l) (session_of number (added_by setup now event))) (sym h) (kept.added now number event)
-step_session setup P brings kept now number event t (Some s) is new h = kept.next now number event s t is (new s refl) h
+step_session : {X Y : Type 0} (setup : SmfSetup) (P : List X → List Y → Session → Type 0) (brings : Brings X) (also : Brings Y) → AreKept setup P brings also → (now number : ℕ) (event : SmfEvent) (t : List X) (u : List Y) (o : Option Session) → FoundIs number o
+    → ((s : Session) → o ≡ Some s → IsNew event s) → WithBoth P t u o
+    → WithBoth P (brings setup now number event o ++ t) (also setup now number event o ++ u) (after_found (next_session setup now event) (session_of number (added_by setup now event)) o)
+step_session setup P brings also kept now number event t u None is new h =
+    subst (λ l. WithBoth P (brings setup now number event None ++ l) (also setup now number event None ++ u) (session_of number (added_by setup now event))) (sym h.0)
+    (subst (λ l. WithBoth P (brings setup now number event None ++ []) (also setup now number event None ++ l) (session_of number (added_by setup now event))) (sym h.1) (kept.added now number event))
+step_session setup P brings also kept now number event t u (Some s) is new h = kept.next now number event s t u is (new s refl) h
 
 pub setup-after : (r : Result Seen SmfRefusal) (m : Machine) (event : SmfEvent) → (after_answer m event r).setup ≡ m.setup
 setup-after (Ok New) m event = refl
@@ -92,21 +95,55 @@ pub same_setup : (setup : SmfSetup) (events : List SmfEvent) → (machine_after 
 same_setup setup [] = refl
 same_setup setup (event ∷ events) = setup-after (answer_of (machine_after setup events) event) (machine_after setup events) event ∙ same_setup setup events
 
-step_answer : {X : Type 0} (setup : SmfSetup) (P : List X → Session → Type 0) (brings : Brings X) → IsKept setup P brings → (r : Result Seen SmfRefusal) (m : Machine) (event : SmfEvent) (number : ℕ) (t : List X)
-    → m.setup ≡ setup → answer_of m event ≡ r → With P t (session_of number m.sessions) → With P (brought brings m number event r ++ t) (session_of number (after_answer m event r).sessions)
-step_answer setup P brings kept (Ok New) m event number t same new h =
+step_answer : {X Y : Type 0} (setup : SmfSetup) (P : List X → List Y → Session → Type 0) (brings : Brings X) (also : Brings Y) → AreKept setup P brings also → (r : Result Seen SmfRefusal) (m : Machine) (event : SmfEvent) (number : ℕ) (t : List X) (u : List Y)
+    → m.setup ≡ setup → answer_of m event ≡ r → WithBoth P t u (session_of number m.sessions)
+    → WithBoth P (brought brings m number event r ++ t) (brought also m number event r ++ u) (session_of number (after_answer m event r).sessions)
+step_answer setup P brings also kept (Ok New) m event number t u same new h =
     let now : ℕ = now_after m.moment event in
-    subst (λ o. With P (brings m.setup now number event (session_of number m.sessions) ++ t) o)
+    let found : Option Session = session_of number m.sessions in
+    subst (λ o. WithBoth P (brings m.setup now number event found ++ t) (also m.setup now number event found ++ u) o)
     (sym (next_found number (next_session m.setup now event) m.sessions (added_by m.setup now event) (number-next event m.setup now)))
-    (subst (λ x. With P (brings x now number event (session_of number m.sessions) ++ t) (after_found (next_session x now event) (session_of number (added_by x now event)) (session_of number m.sessions))) (sym same)
-    (step_session setup P brings kept now number event t (session_of number m.sessions) (found_is number m.sessions)
-    (λ s found. is_new event m number s found (subst (FoundIs number) found (found_is number m.sessions)) new) h))
-step_answer setup P brings kept (Ok Known) m event number t same new h = h
-step_answer setup P brings kept (Err e) m event number t same new h = h
+    (subst (λ x. WithBoth P (brings x now number event found ++ t) (also x now number event found ++ u) (after_found (next_session x now event) (session_of number (added_by x now event)) found)) (sym same)
+    (step_session setup P brings also kept now number event t u found (found_is number m.sessions)
+    (λ s here. is_new event m number s here (subst (FoundIs number) here (found_is number m.sessions)) new) h))
+step_answer setup P brings also kept (Ok Known) m event number t u same new h = h
+step_answer setup P brings also kept (Err e) m event number t u same new h = h
+
+pub over_both : {X Y : Type 0} (setup : SmfSetup) (P : List X → List Y → Session → Type 0) (brings : Brings X) (also : Brings Y) → AreKept setup P brings also → (events : List SmfEvent) (number : ℕ)
+    → WithBoth P (history brings setup events number) (history also setup events number) (session_of number (machine_after setup events).sessions)
+over_both setup P brings also kept [] number = (refl, refl)
+over_both setup P brings also kept (event ∷ events) number =
+    let m = machine_after setup events in
+    step_answer setup P brings also kept (answer_of m event) m event number (history brings setup events number) (history also setup events number) (same_setup setup events) refl (over_both setup P brings also kept events number)
+
+-- so of one history
+abbrev pub With : {X : Type 0} → (List X → Session → Type 0) → List X → Option Session → Type 0
+With P t None = t ≡ []
+With P t (Some s) = P t s
+
+pub record IsKept {X : Type 0} (setup : SmfSetup) (P : List X → Session → Type 0) (brings : Brings X) : Type 0 where
+  pub next : (now number : ℕ) (event : SmfEvent) (s : Session) (t : List X) → (s.number == number) ≡ true → IsNew event s → P t s → P (brings setup now number event (Some s) ++ t) (next_session setup now event s)
+  pub added : (now number : ℕ) (event : SmfEvent) → With P (brings setup now number event None ++ []) (session_of number (added_by setup now event))
+
+abbrev pub nothing : Brings ℕ
+nothing setup now number event s = []
+
+abbrev Alone : {X : Type 0} → (List X → Session → Type 0) → List X → List ℕ → Session → Type 0
+Alone P t u s = P t s
+
+one_of : {X : Type 0} (P : List X → Session → Type 0) (t : List X) (u : List ℕ) (o : Option Session) → WithBoth (Alone P) t u o → With P t o
+one_of P t u None h = h.0
+one_of P t u (Some s) h = h
+
+both_of : {X : Type 0} (P : List X → Session → Type 0) (t : List X) (o : Option Session) → With P t o → WithBoth (Alone P) t [] o
+both_of P t None h = (h, refl)
+both_of P t (Some s) h = h
 
 pub over_all : {X : Type 0} (setup : SmfSetup) (P : List X → Session → Type 0) (brings : Brings X) → IsKept setup P brings → (events : List SmfEvent) (number : ℕ)
     → With P (history brings setup events number) (session_of number (machine_after setup events).sessions)
-over_all setup P brings kept [] number = refl
-over_all setup P brings kept (event ∷ events) number =
-    let m = machine_after setup events in
-    step_answer setup P brings kept (answer_of m event) m event number (history brings setup events number) (same_setup setup events) refl (over_all setup P brings kept events number)
+over_all setup P brings kept events number =
+    one_of P (history brings setup events number) (history nothing setup events number) (session_of number (machine_after setup events).sessions)
+    (over_both setup (Alone P) brings nothing (record {
+      next = λ now number event s t u is new h. kept.next now number event s t is new h;
+      added = λ now number event. both_of P (brings setup now number event None ++ []) (session_of number (added_by setup now event)) (kept.added now number event);
+    }) events number)

@@ -16,9 +16,9 @@ use Rattle.smf_core.specs.Settle.{is_waiting, settled}
 use Rattle.smf_core.specs.Freeze.{waiting_count, move_oldest, freeze_due, with_request}
 use Rattle.smf_core.specs.Machine.{machine_after, session_of, touches, effect, finished, fresh, added_by}
 use Rattle.smf_core.specs.Trace.{drop_moves}
-use Rattle.smf_core.specs.History.{Brings, history}
+use Rattle.smf_core.specs.History.{history}
 use Rattle.smf_core.specs.Limits.{WaitsAtMost, given_up_beyond, dropped_beyond, IsExcess}
-use Rattle.smf_core.proofs.Lifting.{With, IsKept, over_all}
+use Rattle.smf_core.proofs.Lifting.{With, IsKept, nothing, over_all}
 
 count_cons : (h : Holding) (hs : List Holding) → waiting_count (h ∷ hs) ≡ cond (is_waiting h.place) 1 0 + waiting_count hs
 count_cons h hs = sum_by-cons (λ (k : Holding). cond (is_waiting k.place) 1 0) h hs
@@ -54,10 +54,6 @@ within most hs = let left = left_waiting (waiting_count hs - most) hs in omega (
 
 finished_within : (setup : SmfSetup) (now : ℕ) (s : Session) → waiting_count (finished setup now s).holdings ≤ setup.held_max
 finished_within setup now s = within setup.held_max (freeze_due setup now (settled setup now s)).holdings
-
--- a session without a history of its own
-abbrev nothing : Brings ℕ
-nothing setup now number event s = []
 
 abbrev Waits : ℕ → List ℕ → Session → Type 0
 Waits most t s = waiting_count s.holdings ≤ most

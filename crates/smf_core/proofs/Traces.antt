@@ -72,7 +72,7 @@ fresh_whole setup number subscriber groups moment = (
   record { apart = apart_all groups [] (λ g. omega arith); entered = tt },
 )
 
-created_whole : (setup : SmfSetup) (now number : ℕ) (subscriber groups : List ℕ) (moment : ℕ)
+pub created_whole : (setup : SmfSetup) (now number : ℕ) (subscriber groups : List ℕ) (moment : ℕ)
     → StandsWhole (finish_moves setup now (with_request setup now Create (fresh setup number subscriber groups moment)) ++ Freezes (request_of setup now (fresh setup number subscriber groups moment) Create) ∷ []) (finished setup now (with_request setup now Create (fresh setup number subscriber groups moment)))
 created_whole setup now number subscriber groups moment =
     let s : Session = fresh setup number subscriber groups moment in
@@ -97,7 +97,7 @@ attached setup now number (Tick moment) = refl
 attached setup now number (Detach session abnormal moment) = refl
 attached setup now number (Answered session place reply) = refl
 
-kept : (setup : SmfSetup) → IsKept setup StandsWhole moves_of
+pub kept : (setup : SmfSetup) → IsKept setup StandsWhole moves_of
 kept setup = record {
   next = λ now number event s t is new h. next_by (touches event s) event setup now t s refl new h;
   added = λ now number event. attached setup now number event;
@@ -109,7 +109,7 @@ brought_moves (Ok New) m number event = refl
 brought_moves (Ok Known) m number event = refl
 brought_moves (Err e) m number event = refl
 
-trace_is : (setup : SmfSetup) (events : List SmfEvent) (number : ℕ) → trace setup events number ≡ history moves_of setup events number
+pub trace_is : (setup : SmfSetup) (events : List SmfEvent) (number : ℕ) → trace setup events number ≡ history moves_of setup events number
 trace_is setup [] number = refl
 trace_is setup (event ∷ events) number =
     let m = machine_after setup events in

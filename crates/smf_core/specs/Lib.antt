@@ -12,3 +12,4 @@ pub mod Places
 pub mod History
 pub mod Limits
 pub mod Prefixes
+pub mod Reports

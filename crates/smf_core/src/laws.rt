@@ -10,6 +10,7 @@ ghost use Rattle.smf_core.specs.declared.session.Holding.{Holding};
 ghost use Rattle.smf_core.specs.Places.{StandsAsMoved};
 ghost use Rattle.smf_core.specs.Prefixes.{AreStanding};
 ghost use Rattle.smf_core.specs.Limits.{WaitsAtMost, IsExcess};
+ghost use Rattle.smf_core.specs.Reports.{reports, StandsByReports};
 
 /// A law of events; it does nothing. After any events each session is as its moves leave it: its requests are numbered 1, 2, 3, each
 /// after the first was frozen after a success of the one before, and the unanswered one is the newest (TS 32.290, 5.3.2).
@@ -49,4 +50,12 @@ pub fn requests_stand()
 pub fn few_wait()
     ensures few { (setup : SmfSetup) (events : List SmfEvent) (number : ℕ) → WaitsAtMost setup.held_max (session_of number (machine_after setup events).sessions) }
     ensures oldest { (most : ℕ) (holdings : List Holding) → IsExcess most holdings }
+{}
+
+/// A law of events; it does nothing. After any events the reports of a rating group that were counted are numbered 1, 2, 3 without a gap,
+/// and the next number is expected; the containers of the group, in order of their numbers, are a plain cut of these reports, and a cut
+/// under each set of whole hours as switches that none of the group's horizons has strictly within it (TS 32.255, 5.2.1).
+pub fn containers_are_cuts()
+    ensures { (setup : SmfSetup) (events : List SmfEvent) (number : ℕ)
+        → StandsByReports (trace setup events number) (reports setup events number) (session_of number (machine_after setup events).sessions) }
 {}

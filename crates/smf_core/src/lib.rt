@@ -20,7 +20,8 @@ mod traffic;
 
 pub use event::SmfEvent;
 pub use laws::{
-    few_wait, moves_may_follow, places_by_moves, places_go_on, requests_in_order, requests_stand,
+    containers_are_cuts, few_wait, moves_may_follow, places_by_moves, places_go_on,
+    requests_in_order, requests_stand,
 };
 pub use plain::{plain_after, plain_step};
 pub use plan::{Next, SmfPlan};
