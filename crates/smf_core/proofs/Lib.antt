@@ -18,3 +18,5 @@ pub mod Lasts
 pub mod Reported
 pub mod Recounted
 pub mod ReportRuns
+pub mod GroupRuns
+pub mod Settles

@@ -32,7 +32,8 @@ use Rattle.smf_core.specs.Traffic.{horizon_in, closes_before, close_of, extend_o
 use Rattle.smf_core.specs.Replies.{answer_holding, info_of, horizon_after, answer_entry, replied, answered_by}
 use Rattle.smf_core.specs.Machine.{expected_in, expected_of}
 use Rattle.smf_core.specs.Trace.{closes_of, closes_all, ending_moves, reply_moves, unanswered}
-use Rattle.smf_core.specs.Reports.{in_order, AreCountedFrom, units_in, horizon_given, horizons_in, AreAllowed}
+use Rattle.smf_core.specs.Reports.{in_order, AreCountedFrom}
+use Rattle.smf_core.specs.GivenHorizons.{units_in, horizon_given, horizons_in, AreAllowed}
 use Rattle.smf_core.proofs.Effects.{swapped}
 use Rattle.smf_core.proofs.Lookups.{entry_then, found_mapped, found_group}
 use Rattle.smf_core.proofs.Lasts.{AreSame, same_mapped, same_containers, own, OpenAreLast, last_same, Joins, joins, joins_other, last_extended, opens, opens_other, last_pushed}

@@ -18,7 +18,8 @@ use Rattle.smf_core.specs.Traffic.{started, changed}
 use Rattle.smf_core.specs.Machine.{machine_after, session_of, touches, effect, finished, fresh, added_by}
 use Rattle.smf_core.specs.Trace.{trace, moves_of, added_moves, finish_moves, effect_moves}
 use Rattle.smf_core.specs.History.{history}
-use Rattle.smf_core.specs.Reports.{in_order, report_in, reports, horizons_in, AreAllowed, StandsByReports}
+use Rattle.smf_core.specs.Reports.{in_order, report_in, reports, StandsByReports}
+use Rattle.smf_core.specs.GivenHorizons.{horizons_in, AreAllowed}
 use Rattle.smf_core.proofs.Runs.{number-next}
 use Rattle.smf_core.proofs.Lifting.{IsNew, WithBoth, AreKept, over_both}
 use Rattle.smf_core.proofs.Effects.{IsCounted, is_counted}

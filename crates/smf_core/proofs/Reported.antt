@@ -21,7 +21,8 @@ use Rattle.smf_core.specs.Freeze.{waiting_count, next_operation, freeze_due, fre
 use Rattle.smf_core.specs.Traffic.{horizon_in, or_new, asked_entry, with_asked, close_any, detached}
 use Rattle.smf_core.specs.Machine.{expected_in, expected_of, finished}
 use Rattle.smf_core.specs.Trace.{close_moves, closes_of, closes_all, settle_moves, freeze_moves_by, drop_moves, finish_moves}
-use Rattle.smf_core.specs.Reports.{in_order, AreCountedFrom, horizons_in, AreAllowed}
+use Rattle.smf_core.specs.Reports.{in_order, AreCountedFrom}
+use Rattle.smf_core.specs.GivenHorizons.{horizons_in, AreAllowed}
 use Rattle.smf_core.proofs.Lookups.{entry_then, found_mapped, read_asked}
 use Rattle.smf_core.proofs.Lasts.{AreSame, same_self, same_mapped, same_moved, same_containers, own, OpenAreLast, last_same}
 

@@ -12,4 +12,7 @@ pub mod Places
 pub mod History
 pub mod Limits
 pub mod Prefixes
+pub mod GivenHorizons
 pub mod Reports
+pub mod GroupSteps
+pub mod Quotas

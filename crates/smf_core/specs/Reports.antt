@@ -1,26 +1,17 @@
 -- The reports of a session that were counted, and its containers as a cut of them (TS 32.255, 5.2.1; horizons are this product's own).
-use Rattle.std.specs.Prelude.{◌≡◌, ℕ, ◌+◌, ◌==◌, Bool, true, false, if◌then◌else◌, Option, Some, None, is_some, List, [], ◌∷◌, ◌++◌, map, length}
-use Rattle.std.specs.List.{AllByRecursion}
+use Rattle.std.specs.Prelude.{◌≡◌, ℕ, ◌+◌, ◌==◌, Bool, if◌then◌else◌, Option, Some, None, List, [], ◌∷◌, ◌++◌, map, length}
 use Rattle.units.specs.declared.report.Report.{Report}
 use Rattle.units.specs.declared.report.Container.{Container}
-use Rattle.units.specs.declared.answer.UnitInfo.{UnitInfo}
-use Rattle.units.specs.declared.request.Request.{Request}
-use Rattle.units.specs.declared.reply.Reply.{Reply}
-use Rattle.units.specs.declared.reply.Reply.TheVariants.{Created, Updated, Released, Refused}
-use Rattle.units.specs.Cut.{reports_of, containers_of, no_switch, whole_hour, IsCut, AreCuts}
-use Rattle.meter.specs.declared.horizon.Horizon.{Horizon}
-use Rattle.meter.specs.Horizons.{is_within}
+use Rattle.units.specs.Cut.{reports_of, containers_of, no_switch, IsCut, AreCuts}
 use Rattle.sessions.specs.Trace.{Move}
-use Rattle.sessions.specs.Trace.Move.{Answers}
 use Rattle.smf_core.specs.declared.setup.SmfSetup.{SmfSetup}
 use Rattle.smf_core.specs.declared.session.Holding.{Holding}
 use Rattle.smf_core.specs.declared.session.Session.{Session}
 use Rattle.smf_core.specs.declared.event.SmfEvent.{SmfEvent}
 use Rattle.smf_core.specs.declared.event.SmfEvent.TheVariants.{Attach, Start, Count, Change, Tick, Detach, Answered}
-use Rattle.smf_core.specs.Replies.{info_of}
 use Rattle.smf_core.specs.Machine.{expected_of}
-use Rattle.smf_core.specs.Trace.{unanswered}
 use Rattle.smf_core.specs.History.{Brings, history}
+use Rattle.smf_core.specs.GivenHorizons.{horizons_in, AreAllowed}
 
 -- a history with its newest entry last
 abbrev pub in_order : {X : Type 0} → List X → List X
@@ -50,30 +41,6 @@ reports setup events number = in_order (history report_in setup events number)
 abbrev pub AreCountedFrom : ℕ → List Report → Type 0
 AreCountedFrom next [] = Unit {0}
 AreCountedFrom next (r ∷ rs) = (r.number ≡ next) × AreCountedFrom (next + 1) rs
-
--- the entries of a reply
-abbrev pub units_in : Reply → List UnitInfo
-units_in (Created reference answer) = answer.units
-units_in (Updated answer) = answer.units
-units_in Released = []
-units_in (Refused problem) = []
-
--- an entry with granted units sets the horizon: from the answered request's stamp to the tariff time change (TS 32.291, tariffTimeChange)
-abbrev pub horizon_given : Option Request → Option UnitInfo → List Horizon
-horizon_given None info = []
-horizon_given (Some q) None = []
-horizon_given (Some q) (Some info) = if is_some info.grant then record { group = info.group; from = q.stamp; until = info.switch } ∷ [] else []
-
--- the horizons that final successes gave a rating group
-abbrev pub horizons_in : ℕ → List Move → List Horizon
-horizons_in group [] = []
-horizons_in group (Answers p ∷ earlier) = horizon_given (unanswered earlier) (info_of group (units_in p)) ++ horizons_in group earlier
-horizons_in group (move ∷ earlier) = horizons_in group earlier
-
--- switches that these horizons allow for: whole hours, none strictly within one of them
-pub record AreAllowed (horizons : List Horizon) (switches : ℕ → Bool) : Type 0 where
-  pub hours : (moment : ℕ) → switches moment ≡ true → whole_hour moment ≡ true
-  pub none_within : AllByRecursion (λ h. (moment : ℕ) → is_within (Some h) moment ≡ true → switches moment ≡ false) horizons
 
 abbrev pub containers_in : List Holding → List Container
 containers_in holdings = map (λ h. h.container) holdings

@@ -11,6 +11,8 @@ ghost use Rattle.smf_core.specs.Places.{StandsAsMoved};
 ghost use Rattle.smf_core.specs.Prefixes.{AreStanding};
 ghost use Rattle.smf_core.specs.Limits.{WaitsAtMost, IsExcess};
 ghost use Rattle.smf_core.specs.Reports.{reports, StandsByReports};
+ghost use Rattle.smf_core.specs.GroupSteps.{steps};
+ghost use Rattle.smf_core.specs.Quotas.{StandsBySteps, NoneIsDue};
 
 /// A law of events; it does nothing. After any events each session is as its moves leave it: its requests are numbered 1, 2, 3, each
 /// after the first was frozen after a success of the one before, and the unanswered one is the newest (TS 32.290, 5.3.2).
@@ -58,4 +60,17 @@ pub fn few_wait()
 pub fn containers_are_cuts()
     ensures { (setup : SmfSetup) (events : List SmfEvent) (number : ℕ)
         → StandsByReports (trace setup events number) (reports setup events number) (session_of number (machine_after setup events).sessions) }
+{}
+
+/// A law of events; it does nothing. After any events the quota of a rating group is that of the whole list of what came to it: asking,
+/// freezings, answers, reports and triggers. So what is due and the gate are those of the terms of the latest answer with an entry of it
+/// and of the sum over the reports since the freezing of that answer's request (TS 32.290, quota management).
+pub fn quotas_by_steps()
+    ensures { (setup : SmfSetup) (events : List SmfEvent) (number group : ℕ) → StandsBySteps group (steps setup events number group) (session_of number (machine_after setup events).sessions) }
+{}
+
+/// A law of events; it does nothing. Once a session is settled at a moment, no trigger of its rating groups is due at that moment, so
+/// settling it again changes nothing (this product's own).
+pub fn settles_once()
+    ensures { (setup : SmfSetup) (events : List SmfEvent) (number now : ℕ) → NoneIsDue setup now (session_of number (machine_after setup events).sessions) }
 {}
