@@ -21,7 +21,7 @@ use Rattle.smf_core.specs.Freeze.{move_oldest, usages}
 use Rattle.smf_core.specs.Replies.{answer_holding}
 use Rattle.smf_core.specs.Traffic.{give_up}
 use Rattle.smf_core.specs.Places.{place_by, place_of, closed_holding, AreInOrder}
-use Rattle.smf_core.proofs.TraceLaws.{uses_settled, all_answered}
+use Rattle.smf_core.proofs.TraceLaws.{uses_settled, all_answered, newest_by}
 use Rattle.smf_core.proofs.Counted.{standing, occurs_standing, standing_is, AreApart, stands_once, AreEntered, StandsIf, stands_if}
 use Rattle.smf_core.proofs.Placed.{IsAt, is_waiting_by, order_moved, AreLeft}
 
@@ -123,7 +123,7 @@ freezes_left t hs es q usage number v idle o apart entered a = record {
     order = order_moved 500 Frozen 1 hs o
 
     chosen : AllByRecursion (IsChosen t) moved
-    chosen = chosen_each t hs 500 (all_answered t v idle) a
+    chosen = chosen_each t hs 500 (all_answered t (newest_by t v) idle) a
 
     occurs : (lsn : ℕ) → occurs_in lsn q.usage ≡ standing lsn moved es
     occurs lsn = ap (occurs_in lsn) usage ∙ occurs_standing lsn moved es

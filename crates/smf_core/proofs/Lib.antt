@@ -20,3 +20,4 @@ pub mod Recounted
 pub mod ReportRuns
 pub mod GroupRuns
 pub mod Settles
+pub mod Exact

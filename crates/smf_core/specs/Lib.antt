@@ -16,3 +16,4 @@ pub mod GivenHorizons
 pub mod Reports
 pub mod GroupSteps
 pub mod Quotas
+pub mod Exact

@@ -8,6 +8,7 @@ ghost use Rattle.sessions.specs.Trace.{IsTrace};
 ghost use Rattle.smf_core.specs.Trace.{trace, AgreesWith};
 ghost use Rattle.smf_core.specs.declared.session.Holding.{Holding};
 ghost use Rattle.smf_core.specs.Places.{StandsAsMoved};
+ghost use Rattle.smf_core.specs.Exact.{ArePlacedExactly};
 ghost use Rattle.smf_core.specs.Prefixes.{AreStanding};
 ghost use Rattle.smf_core.specs.Limits.{WaitsAtMost, IsExcess};
 ghost use Rattle.smf_core.specs.Reports.{reports, StandsByReports};
@@ -35,9 +36,11 @@ pub fn moves_may_follow()
 
 /// A law of events; it does nothing. After any events the containers of a session are numbered 1, 2, 3, and each is where the moves of
 /// the session say, with what closed it and when: open until it is closed; then given up, with the cause; else waiting, where no request
-/// has it; else frozen, where no request with a final success has it; else answered (this product's own).
+/// has it; else frozen, where no request with a final success has it; else answered. So each place is held exactly where the moves say so: a
+/// container is frozen exactly where it stands in the unanswered request (this product's own).
 pub fn places_by_moves()
-    ensures { (setup : SmfSetup) (events : List SmfEvent) (number : ℕ) → StandsAsMoved (trace setup events number) (session_of number (machine_after setup events).sessions) }
+    ensures places { (setup : SmfSetup) (events : List SmfEvent) (number : ℕ) → StandsAsMoved (trace setup events number) (session_of number (machine_after setup events).sessions) }
+    ensures exact { (setup : SmfSetup) (events : List SmfEvent) (number : ℕ) → ArePlacedExactly (trace setup events number) (session_of number (machine_after setup events).sessions) }
 {}
 
 /// A law of events; it does nothing. What events did to a session stands whatever events come after them; so each request, its number and
