@@ -26,7 +26,7 @@ use Rattle.smf_core.proofs.Counted.{standing, occurs_standing, standing_is, AreA
 use Rattle.smf_core.proofs.Placed.{IsAt, is_waiting_by, order_moved, AreLeft}
 
 -- where each request is answered none is frozen
-none_frozen : (c : Option Closed) (g : Option Cause) (x : Bool) → is_frozen (place_by c g x x) ≡ false
+pub none_frozen : (c : Option Closed) (g : Option Cause) (x : Bool) → is_frozen (place_by c g x x) ≡ false
 none_frozen None g x = refl
 none_frozen (Some c) (Some g) x = refl
 none_frozen (Some c) None true = refl
@@ -39,7 +39,7 @@ waiting_not_frozen Frozen e = cc
 waiting_not_frozen Answered e = refl
 waiting_not_frozen (GivenUp w) e = refl
 
-is_frozen_then : (p : Place) → is_frozen p ≡ true → p ≡ Frozen
+pub is_frozen_then : (p : Place) → is_frozen p ≡ true → p ≡ Frozen
 is_frozen_then Open e = cc
 is_frozen_then Waiting e = cc
 is_frozen_then Frozen e = refl
@@ -47,11 +47,11 @@ is_frozen_then Answered e = cc
 is_frozen_then (GivenUp w) e = cc
 
 -- a container as a freezing chooses it or leaves it
-record IsChosen (t : List Move) (h : Holding) : Type 0 where
-  closed : closed_holding h ≡ closed_as t h.container.lsn
-  untouched : closed_as t h.container.lsn ≡ None → given_up t h.container.lsn ≡ None
-  waits : is_frozen h.place ≡ true → IsWaiting t h.container.lsn
-  stays : is_frozen h.place ≡ false → h.place ≡ place_of t h.container.lsn
+pub record IsChosen (t : List Move) (h : Holding) : Type 0 where
+  pub closed : closed_holding h ≡ closed_as t h.container.lsn
+  pub untouched : closed_as t h.container.lsn ≡ None → given_up t h.container.lsn ≡ None
+  pub waits : is_frozen h.place ≡ true → IsWaiting t h.container.lsn
+  pub stays : is_frozen h.place ≡ false → h.place ≡ place_of t h.container.lsn
 
 chosen_left : (t : List Move) (h : Holding) → requests t ≡ settled t → IsAt t h → IsChosen t h
 chosen_left t h all a =
@@ -63,7 +63,7 @@ chosen_left t h all a =
 chosen_moved : (t : List Move) (h : Holding) → is_waiting h.place ≡ true → IsAt t h → IsChosen t (record h { place = Frozen })
 chosen_moved t h e a = record { closed = a.closed; untouched = a.untouched; waits = λ f. is_waiting_by t h e a; stays = λ f. cc }
 
-chosen_each : (t : List Move) (hs : List Holding) (most : ℕ) → requests t ≡ settled t → AllByRecursion (IsAt t) hs → AllByRecursion (IsChosen t) (move_oldest most Frozen hs)
+pub chosen_each : (t : List Move) (hs : List Holding) (most : ℕ) → requests t ≡ settled t → AllByRecursion (IsAt t) hs → AllByRecursion (IsChosen t) (move_oldest most Frozen hs)
 chosen_each t [] most all a = tt
 chosen_each t (h ∷ hs) most all a = at (is_waiting h.place) (nat_lt 0 most) refl (λ n. chosen_each t hs n all a.1)
   where
@@ -73,7 +73,7 @@ chosen_each t (h ∷ hs) most all a = at (is_waiting h.place) (nat_lt 0 most) re
     at true false e k = (chosen_left t h all a.0, k most)
     at false b e k = (chosen_left t h all a.0, k most)
 
-entered_moved : (hs : List Holding) (es : List Entry) (most : ℕ) → AreEntered es hs → AreEntered es (move_oldest most Frozen hs)
+pub entered_moved : (hs : List Holding) (es : List Entry) (most : ℕ) → AreEntered es hs → AreEntered es (move_oldest most Frozen hs)
 entered_moved [] es most a = tt
 entered_moved (h ∷ hs) es most a = at (is_waiting h.place && nat_lt 0 most) (λ n. entered_moved hs es n a.1)
   where

@@ -124,7 +124,7 @@ dropped_stands most t s u holdings count request life h =
     }
 
 -- a request is frozen
-may_freeze : (b : Bool) (setup : SmfSetup) (s : Session) (l : Life) (o : Operation) → cond b None (operation_in setup s l) ≡ Some o → (b ≡ false) × (is_ended l ≡ false)
+pub may_freeze : (b : Bool) (setup : SmfSetup) (s : Session) (l : Life) (o : Operation) → cond b None (operation_in setup s l) ≡ Some o → (b ≡ false) × (is_ended l ≡ false)
 may_freeze true setup s l o h = cc
 may_freeze false setup s Live o h = (refl, refl)
 may_freeze false setup s Ending o h = (refl, refl)

@@ -21,3 +21,5 @@ pub mod ReportRuns
 pub mod GroupRuns
 pub mod Settles
 pub mod Exact
+pub mod Contents
+pub mod ContentRuns

@@ -59,14 +59,17 @@ finished_whole setup now t s h =
     let settled_too : HasEntries (settled setup now s) = settled_entries setup now s h.1 in
     (finished_stands setup now t s settled_too.apart settled_too.entered h.0, finished_entries setup now s h.1)
 
+pub effect_whole : (event : SmfEvent) (now : ℕ) (t : List Move) (s : Session) → touches event s ≡ true → IsNew event s → StandsWhole t s → StandsWhole (effect_moves now event s ++ t) (effect now event s)
+effect_whole event now t s on new h = (effect_stands event now t s on new h.0, effect_entries event now s on new h.1)
+
 next_by : (b : Bool) (event : SmfEvent) (setup : SmfSetup) (now : ℕ) (t : List Move) (s : Session) → touches event s ≡ b → IsNew event s → StandsWhole t s
     → StandsWhole (cond b (finish_moves setup now (effect now event s) ++ effect_moves now event s) [] ++ t) (cond b (finished setup now (effect now event s)) s)
 next_by true event setup now t s on new h =
     subst (λ l. StandsWhole l (finished setup now (effect now event s))) (sym (append_assoc (finish_moves setup now (effect now event s)) (effect_moves now event s) t))
-    (finished_whole setup now (effect_moves now event s ++ t) (effect now event s) (effect_stands event now t s on new h.0, effect_entries event now s on new h.1))
+    (finished_whole setup now (effect_moves now event s ++ t) (effect now event s) (effect_whole event now t s on new h))
 next_by false event setup now t s on new h = h
 
-fresh_whole : (setup : SmfSetup) (number : ℕ) (subscriber groups : List ℕ) (moment : ℕ) → StandsWhole [] (fresh setup number subscriber groups moment)
+pub fresh_whole : (setup : SmfSetup) (number : ℕ) (subscriber groups : List ℕ) (moment : ℕ) → StandsWhole [] (fresh setup number subscriber groups moment)
 fresh_whole setup number subscriber groups moment = (
   record { valid = tt; numbered = tt; each = tt; beyond = λ lsn l. refl; count = refl; unanswered = refl; asked = λ e. cc; idle = λ e on. refl },
   record { apart = apart_all groups [] (λ g. omega arith); entered = tt },

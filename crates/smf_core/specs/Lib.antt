@@ -17,3 +17,4 @@ pub mod Reports
 pub mod GroupSteps
 pub mod Quotas
 pub mod Exact
+pub mod Contents

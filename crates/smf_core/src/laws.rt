@@ -9,6 +9,7 @@ ghost use Rattle.smf_core.specs.Trace.{trace, AgreesWith};
 ghost use Rattle.smf_core.specs.declared.session.Holding.{Holding};
 ghost use Rattle.smf_core.specs.Places.{StandsAsMoved};
 ghost use Rattle.smf_core.specs.Exact.{ArePlacedExactly};
+ghost use Rattle.smf_core.specs.Contents.{AreContents};
 ghost use Rattle.smf_core.specs.Prefixes.{AreStanding};
 ghost use Rattle.smf_core.specs.Limits.{WaitsAtMost, IsExcess};
 ghost use Rattle.smf_core.specs.Reports.{reports, StandsByReports};
@@ -76,4 +77,11 @@ pub fn quotas_by_steps()
 /// settling it again changes nothing (this product's own).
 pub fn settles_once()
     ensures { (setup : SmfSetup) (events : List SmfEvent) (number now : ℕ) → NoneIsDue setup now (session_of number (machine_after setup events).sessions) }
+{}
+
+/// A law of events; it does nothing. After any events each request of a session holds exactly the containers that waited as it was frozen
+/// and were among the 500 oldest, each in the entry of its rating group, with its amounts, trigger and moment as it was closed
+/// (TS 32.291, 6.1.6.2.1.4; the 500 are this product's own).
+pub fn requests_hold()
+    ensures { (setup : SmfSetup) (events : List SmfEvent) (number : ℕ) → AreContents (trace setup events number) }
 {}
