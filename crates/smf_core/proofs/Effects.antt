@@ -339,7 +339,10 @@ answered_stands_by : (now number : ℕ) (p : Reply) (o : Option Request) (t : Li
 answered_stands_by now number p None t s is new h = h
 answered_stands_by now number p (Some q) t s is new h = replied_stands now number p q t s is (and_parts (q.number == number) (is_final_for q.operation p number) new).1 h
 
-pub answered_stands : (now number : ℕ) (p : Reply) (t : List Move) (s : Session) → reply_answer number p s ≡ Ok New → Stands t s → Stands (reply_moves now p s.request s ++ t) (answered_by now p s.request s)
-answered_stands now number p t s new h =
+pub is_final_answer : (number : ℕ) (p : Reply) (s : Session) → reply_answer number p s ≡ Ok New → is_answer_to number p s.request ≡ true
+is_final_answer number p s new =
     let both : (not (is_ended s.life) && is_answer_to number p s.request) ≡ true = new_if (not (is_ended s.life) && is_answer_to number p s.request) new in
-    answered_stands_by now number p s.request t s refl (and_parts (not (is_ended s.life)) (is_answer_to number p s.request) both).1 h
+    (and_parts (not (is_ended s.life)) (is_answer_to number p s.request) both).1
+
+pub answered_stands : (now number : ℕ) (p : Reply) (t : List Move) (s : Session) → reply_answer number p s ≡ Ok New → Stands t s → Stands (reply_moves now p s.request s ++ t) (answered_by now p s.request s)
+answered_stands now number p t s new h = answered_stands_by now number p s.request t s refl (is_final_answer number p s new) h

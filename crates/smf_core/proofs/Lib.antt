@@ -23,3 +23,5 @@ pub mod Settles
 pub mod Exact
 pub mod Contents
 pub mod ContentRuns
+pub mod Named
+pub mod Caused

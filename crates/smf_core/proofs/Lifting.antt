@@ -15,11 +15,11 @@ use Rattle.smf_core.specs.History.{Brings, brought, history}
 use Rattle.smf_core.proofs.Runs.{number-next}
 
 -- the session that is found has the number
-abbrev FoundIs : ℕ → Option Session → Type 0
+abbrev pub FoundIs : ℕ → Option Session → Type 0
 FoundIs number None = Unit {0}
 FoundIs number (Some s) = (s.number == number) ≡ true
 
-found_is : (number : ℕ) (xs : List Session) → FoundIs number (session_of number xs)
+pub found_is : (number : ℕ) (xs : List Session) → FoundIs number (session_of number xs)
 found_is number [] = tt
 found_is number (x ∷ xs) = at (x.number == number) refl (found_is number xs)
   where
@@ -58,7 +58,7 @@ own_answer number session xs s answer found is new on =
     let here : number ≡ session = sym (eqb-true s.number number is) ∙ eqb-true s.number session on in
     ap (λ o. on_session o answer) (sym found) ∙ ap (λ n. on_session (session_of n xs) answer) here ∙ new
 
-is_new : (event : SmfEvent) (m : Machine) (number : ℕ) (s : Session) → session_of number m.sessions ≡ Some s → (s.number == number) ≡ true → answer_of m event ≡ Ok New → IsNew event s
+pub is_new : (event : SmfEvent) (m : Machine) (number : ℕ) (s : Session) → session_of number m.sessions ≡ Some s → (s.number == number) ≡ true → answer_of m event ≡ Ok New → IsNew event s
 is_new (Attach session subscriber groups moment) m number s found is new = tt
 is_new (Start session group moment) m number s found is new = own_answer number session m.sessions s (start_answer group moment) found is new
 is_new (Count session r) m number s found is new = own_answer number session m.sessions s (count_answer r) found is new

@@ -18,3 +18,5 @@ pub mod GroupSteps
 pub mod Quotas
 pub mod Exact
 pub mod Contents
+pub mod RequestNames
+pub mod Causes

@@ -2,14 +2,16 @@
 ghost use Rattle.std.specs.Prelude.{◌≡◌, ◌++◌, ℕ, List};
 ghost use Rattle.smf_core.specs.declared.setup.SmfSetup.{SmfSetup};
 ghost use Rattle.smf_core.specs.declared.event.SmfEvent.{SmfEvent};
-ghost use Rattle.smf_core.specs.Machine.{machine_after, session_of};
+ghost use Rattle.smf_core.specs.Machine.{machine_after, session_of, answer_of};
 ghost use Rattle.smf_core.specs.Forward.{IsLaterSession};
 ghost use Rattle.sessions.specs.Trace.{IsTrace};
-ghost use Rattle.smf_core.specs.Trace.{trace, AgreesWith};
+ghost use Rattle.smf_core.specs.Trace.{trace, moves_if, AgreesWith};
 ghost use Rattle.smf_core.specs.declared.session.Holding.{Holding};
 ghost use Rattle.smf_core.specs.Places.{StandsAsMoved};
 ghost use Rattle.smf_core.specs.Exact.{ArePlacedExactly};
 ghost use Rattle.smf_core.specs.Contents.{AreContents};
+ghost use Rattle.smf_core.specs.RequestNames.{AreNamed};
+ghost use Rattle.smf_core.specs.Causes.{AreCaused};
 ghost use Rattle.smf_core.specs.Prefixes.{AreStanding};
 ghost use Rattle.smf_core.specs.Limits.{WaitsAtMost, IsExcess};
 ghost use Rattle.smf_core.specs.Reports.{reports, StandsByReports};
@@ -84,4 +86,17 @@ pub fn settles_once()
 /// (TS 32.291, 6.1.6.2.1.4; the 500 are this product's own).
 pub fn requests_hold()
     ensures { (setup : SmfSetup) (events : List SmfEvent) (number : ℕ) → AreContents (trace setup events number) }
+{}
+
+/// A law of events; it does nothing. After any events each request of a session is of this SMF and of that session; the first is a Create,
+/// and each later one is an Update or a Release of the reference that the first success gave (TS 32.291, 6.1.3).
+pub fn requests_are_named()
+    ensures { (setup : SmfSetup) (events : List SmfEvent) (number : ℕ) → AreNamed setup number (trace setup events number) }
+{}
+
+/// A law of events; it does nothing. An event makes a reply an answer of a session only where it brings that reply to the session, with the
+/// number of its unanswered request, which is the newest (TS 32.290, 5.3.2).
+pub fn replies_are_caused()
+    ensures { (setup : SmfSetup) (event : SmfEvent) (events : List SmfEvent) (number : ℕ)
+        → AreCaused event number (trace setup events number) (moves_if (machine_after setup events) number event (answer_of (machine_after setup events) event)) }
 {}
