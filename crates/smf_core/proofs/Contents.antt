@@ -21,7 +21,7 @@ use Rattle.smf_core.specs.Places.{place_by, place_of, closed_holding, AreInOrder
 use Rattle.smf_core.specs.Contents.{used_closed, IsHeld, waiting_to, IsContent}
 use Rattle.smf_core.proofs.TraceLaws.{all_answered, newest_by}
 use Rattle.smf_core.proofs.Counted.{entries_at, standing, occurs_standing, standing_is, AreEntered}
-use Rattle.smf_core.proofs.Placed.{IsAt, is_waiting_by}
+use Rattle.smf_core.proofs.Placed.{IsAt, placed_by, is_waiting_by}
 use Rattle.smf_core.proofs.Frozen.{none_frozen, IsChosen, chosen_each}
 use Rattle.smf_core.proofs.Entries.{HasEntries}
 use Rattle.smf_core.proofs.Held.{Stands}
@@ -62,7 +62,7 @@ usages_held t hs (e ∷ es) a = at (says_something e (used_of e.number hs)) (usa
 
 -- the oldest
 
-waiting_next : (t : List Move) (n : ℕ) → waiting_to t (n + 1) ≡ cond (is_waiting (place_of t (n + 1))) 1 0 + waiting_to t n
+pub waiting_next : (t : List Move) (n : ℕ) → waiting_to t (n + 1) ≡ cond (is_waiting (place_of t (n + 1))) 1 0 + waiting_to t n
 waiting_next t n = let same : n + 1 ≡ suc n = omega arith in subst (λ m. waiting_to t m ≡ cond (is_waiting (place_of t m)) 1 0 + waiting_to t n) (sym same) refl
 
 -- how many may still be chosen
@@ -102,6 +102,11 @@ chosen_old t n (h ∷ hs) most left o a none =
         let same : waiting_to t (n + 1) ≡ waiting_to t n = count ∙ ap (λ b. cond b 1 0 + waiting_to t n) w ∙ omega arith in
         (never, k most (omega (arith, same, left)))
 
+-- a container that waits by the moves is at the waiting place
+pub waits_by_moves : (t : List Move) (k : ℕ) → IsWaiting t k → is_waiting (place_of t k) ≡ true
+waits_by_moves t k w =
+    ap is_waiting (placed_by (closed_as t k) (given_up t k) (uses k (requests t) == 0) (uses k (answered_requests t) == 0) w.closed true (uses k (answered_requests t) == 0) w.is_closed w.not_given_up (eq-eqb (uses k (requests t)) 0 w.in_none) refl)
+
 -- what waits and is among the oldest is chosen
 old_chosen : (t : List Move) (n : ℕ) (hs : List Holding) (es : List Entry) (most k : ℕ) → most ≡ rest_of t n → AreInOrder (n + 1) hs → AllByRecursion (IsAt t) hs → AreEntered es hs
     → n < k → k ≤ n + length hs → IsWaiting t k → waiting_to t k ≤ 500 → 0 < standing k (move_oldest most Frozen hs) es
@@ -111,12 +116,6 @@ old_chosen t n (h ∷ hs) es most k left o a entered low high w old = ⊎_elim
     (λ (other : k ≡ n + 1 → ⊥). later other (λ m e. old_chosen t (n + 1) hs es m k e o.1 a.1 entered.1 (omega (arith, low, other)) (omega (arith, high)) w old))
     (cases_eq k (n + 1))
   where
-    waits_by_moves : IsWaiting t k → is_waiting (place_of t k) ≡ true
-    waits_by_moves w = ap is_waiting (
-        ap (λ c. place_by c (given_up t k) (uses k (requests t) == 0) (uses k (answered_requests t) == 0)) w.is_closed
-        ∙ ap (λ g. place_by (Some w.closed) g (uses k (requests t) == 0) (uses k (answered_requests t) == 0)) w.not_given_up
-        ∙ ap (λ b. place_by (Some w.closed) None b (uses k (answered_requests t) == 0)) (eq-eqb (uses k (requests t)) 0 w.in_none))
-
     here : is_waiting h.place ≡ is_waiting (place_of t (n + 1))
     here = ap is_waiting a.0.place ∙ ap (λ m. is_waiting (place_of t m)) o.0
 
@@ -125,7 +124,7 @@ old_chosen t n (h ∷ hs) es most k left o a entered low high w old = ⊎_elim
 
     first : k ≡ n + 1 → 0 < standing k (move_oldest most Frozen (h ∷ hs)) es
     first same =
-        let waits : is_waiting h.place ≡ true = here ∙ ap (λ m. is_waiting (place_of t m)) (sym same) ∙ waits_by_moves w in
+        let waits : is_waiting h.place ≡ true = here ∙ ap (λ m. is_waiting (place_of t m)) (sym same) ∙ waits_by_moves t k w in
         let one : waiting_to t (n + 1) ≡ 1 + waiting_to t n = count ∙ ap (λ b. cond b 1 0 + waiting_to t n) waits in
         let within : waiting_to t (n + 1) ≤ 500 = subst (λ m. waiting_to t m ≤ 500) same old in
         let some : 0 < most = omega (arith, one, within, left) in

@@ -24,7 +24,7 @@ use Rattle.smf_core.specs.Trace.{trace, unanswered}
 use Rattle.smf_core.specs.Places.{why_of, place_by}
 use Rattle.smf_core.specs.Exact.{IsAsked, IsPlacedExactly, ArePlacedExactly}
 use Rattle.smf_core.proofs.TraceLaws.{uses_settled, unclosed_unused, is_lost, NewestBy, newest_by, unanswered_asked, once, given_apart, lost_given}
-use Rattle.smf_core.proofs.Placed.{IsAt, unclosed_by, is_waiting_by}
+use Rattle.smf_core.proofs.Placed.{IsAt, placed_by, unclosed_by, is_waiting_by}
 use Rattle.smf_core.proofs.Lifting.{With}
 use Rattle.smf_core.proofs.Traces.{StandsWhole, whole_run}
 
@@ -131,8 +131,7 @@ exactly t h v a = record {
 
     waits : IsWaiting t k → h.place ≡ Waiting
     waits w =
-        a.place ∙ ap (λ o. place_by o (given_up t k) in_none unanswered_yet) w.is_closed ∙ ap (λ g. place_by (Some w.closed) g in_none unanswered_yet) w.not_given_up
-        ∙ ap (λ b. place_by (Some w.closed) None b unanswered_yet) (eq-eqb (uses k (requests t)) 0 w.in_none)
+        a.place ∙ placed_by (closed_as t k) (given_up t k) in_none unanswered_yet w.closed true unanswered_yet w.is_closed w.not_given_up (eq-eqb (uses k (requests t)) 0 w.in_none) refl
 
     not_lost : given_up t k ≡ None → unanswered_yet ≡ true → is_lost (phase t) ≡ false
     not_lost none yet = at (is_lost (phase t)) refl
@@ -162,8 +161,7 @@ exactly t h v a = record {
         let on : is_lost (phase t) ≡ false = ap is_lost phase_is in
         let not_given : given_up t k ≡ None = absent (given_up t k) (λ w g. let z : uses k (requests t) ≡ 0 = (given_apart t k w v g).in_none on in omega (arith, used, z)) in
         let c : IsThere (closed_as t k) = closed used in
-        a.place ∙ ap (λ o. place_by o (given_up t k) in_none unanswered_yet) c.is ∙ ap (λ g. place_by (Some c.value) g in_none unanswered_yet) not_given
-        ∙ ap (λ b. place_by (Some c.value) None b unanswered_yet) (not_zero (uses k (requests t)) used) ∙ ap (λ b. place_by (Some c.value) None false b) (eq-eqb (uses k (settled t)) 0 none)
+        a.place ∙ placed_by (closed_as t k) (given_up t k) in_none unanswered_yet c.value false true c.is not_given (not_zero (uses k (requests t)) used) (eq-eqb (uses k (settled t)) 0 none)
 
     answered : 0 < uses k (settled t) → h.place ≡ Answered
     answered l =
@@ -171,8 +169,7 @@ exactly t h v a = record {
         let used : 0 < uses k (requests t) = omega (arith, l, within) in
         let not_given : given_up t k ≡ None = absent (given_up t k) (λ w g. let z : uses k (settled t) ≡ 0 = (given_apart t k w v g).unanswered in omega (arith, l, z)) in
         let c : IsThere (closed_as t k) = closed used in
-        a.place ∙ ap (λ o. place_by o (given_up t k) in_none unanswered_yet) c.is ∙ ap (λ g. place_by (Some c.value) g in_none unanswered_yet) not_given
-        ∙ ap (λ b. place_by (Some c.value) None b unanswered_yet) (not_zero (uses k (requests t)) used) ∙ ap (λ b. place_by (Some c.value) None false b) (not_zero (uses k (settled t)) l)
+        a.place ∙ placed_by (closed_as t k) (given_up t k) in_none unanswered_yet c.value false false c.is not_given (not_zero (uses k (requests t)) used) (not_zero (uses k (settled t)) l)
 
     given : (cause : Cause) → given_up t k ≡ Some cause → h.place ≡ GivenUp (why_of cause)
     given cause g =

@@ -23,7 +23,7 @@ use Rattle.smf_core.specs.Traffic.{give_up}
 use Rattle.smf_core.specs.Places.{place_by, place_of, closed_holding, AreInOrder}
 use Rattle.smf_core.proofs.TraceLaws.{uses_settled, all_answered, newest_by}
 use Rattle.smf_core.proofs.Counted.{standing, occurs_standing, standing_is, AreApart, stands_once, AreEntered, StandsIf, stands_if}
-use Rattle.smf_core.proofs.Placed.{IsAt, is_waiting_by, order_moved, AreLeft}
+use Rattle.smf_core.proofs.Placed.{IsAt, placed_by, is_waiting_by, order_moved, AreLeft}
 
 -- where each request is answered none is frozen
 pub none_frozen : (c : Option Closed) (g : Option Cause) (x : Bool) → is_frozen (place_by c g x x) ≡ false
@@ -93,10 +93,7 @@ frozen_at t q h c stands = record { place = at (is_frozen h.place) refl stands; 
         let used : (occurs_in k q.usage + uses k (requests t) == 0) ≡ false = ne_eqb _ 0 (λ z. omega (arith, s, z)) in
         let unanswered : (uses k (settled t) == 0) ≡ true = eq-eqb _ 0 (let l = uses_settled t k in omega (arith, l, w.in_none)) in
         is_frozen_then h.place e
-        ∙ sym (ap (λ o. place_by o (given_up t k) (occurs_in k q.usage + uses k (requests t) == 0) (uses k (settled t) == 0)) w.is_closed
-        ∙ ap (λ g. place_by (Some w.closed) g (occurs_in k q.usage + uses k (requests t) == 0) (uses k (settled t) == 0)) w.not_given_up
-        ∙ ap (λ b. place_by (Some w.closed) None b (uses k (settled t) == 0)) used
-        ∙ ap (λ b. place_by (Some w.closed) None false b) unanswered)
+        ∙ sym (placed_by (closed_as t k) (given_up t k) (occurs_in k q.usage + uses k (requests t) == 0) (uses k (settled t) == 0) w.closed false true w.is_closed w.not_given_up used unanswered)
     at false e s =
         let same : uses k (requests t) ≡ occurs_in k q.usage + uses k (requests t) = omega (arith, s) in
         c.stays e ∙ ap (λ n. place_by (closed_as t k) (given_up t k) (n == 0) (uses k (settled t) == 0)) same

@@ -19,7 +19,7 @@ use Rattle.smf_core.specs.Settle.{is_open, is_waiting, entry_of, close, close_du
 use Rattle.smf_core.specs.Freeze.{waiting_count, move_oldest, next_operation, operation_in, request_of, freeze_due, freeze_by, with_request}
 use Rattle.smf_core.specs.Traffic.{close_any}
 use Rattle.smf_core.specs.Machine.{is_ended, finished}
-use Rattle.smf_core.specs.Trace.{closes_of, closes_all, settle_moves, freeze_moves_by, drop_moves, finish_moves, unanswered}
+use Rattle.smf_core.specs.Trace.{closes_of, closes_all, settle_moves, freeze_moves, freeze_moves_by, drop_moves, finish_moves, unanswered}
 use Rattle.smf_core.specs.Places.{AreInOrder}
 use Rattle.smf_core.proofs.Counted.{AreApart, AreEntered}
 use Rattle.smf_core.proofs.Placed.{IsAt, order_map, closed_with, close_lsn, AreLeft, closes_left, closes_beyond, LeavesRequests, closes_leave, order_moved, drops_left, drops_leave, drops_unclosed}
@@ -154,11 +154,15 @@ freeze_stands_by (Some o) setup now t s e apart entered h =
     let free = may_freeze (is_some s.request) setup s s.life o e in
     asking_stands setup now o t s (h.idle free.0 free.1) apart entered h
 
+-- an event up to its freezing
+pub frozen_stands : (setup : SmfSetup) (now : ℕ) (t : List Move) (s : Session) → AreApart (settled setup now s).groups → AreEntered (settled setup now s).groups (settled setup now s).holdings → Stands t s
+    → Stands (freeze_moves setup now (settled setup now s) ++ (settle_moves setup now s ++ t)) (freeze_due setup now (settled setup now s))
+frozen_stands setup now t s apart entered h =
+    let v : Session = settled setup now s in
+    freeze_stands_by (next_operation setup v) setup now (settle_moves setup now s ++ t) v refl apart entered (settled_stands setup now t s h)
+
 pub finished_stands : (setup : SmfSetup) (now : ℕ) (t : List Move) (s : Session) → AreApart (settled setup now s).groups → AreEntered (settled setup now s).groups (settled setup now s).holdings → Stands t s → Stands (finish_moves setup now s ++ t) (finished setup now s)
 finished_stands setup now t s apart entered h =
-    let v : Session = settled setup now s in
-    let u : Session = freeze_due setup now v in
-    let closed : Stands (settle_moves setup now s ++ t) v = settled_stands setup now t s h in
-    let asking : Stands (freeze_moves_by setup now v (next_operation setup v) ++ (settle_moves setup now s ++ t)) u = freeze_stands_by (next_operation setup v) setup now (settle_moves setup now s ++ t) v refl apart entered closed in
-    let over : ℕ = waiting_count u.holdings - setup.held_max in
-    rw (append_assoc, append_assoc) (dropped_stands over (freeze_moves_by setup now v (next_operation setup v) ++ (settle_moves setup now s ++ t)) u (finished setup now s) refl refl refl refl asking)
+    let u : Session = freeze_due setup now (settled setup now s) in
+    let asking : List Move = freeze_moves setup now (settled setup now s) ++ (settle_moves setup now s ++ t) in
+    rw (append_assoc, append_assoc) (dropped_stands (waiting_count u.holdings - setup.held_max) asking u (finished setup now s) refl refl refl refl (frozen_stands setup now t s apart entered h))

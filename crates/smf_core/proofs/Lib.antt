@@ -25,3 +25,5 @@ pub mod Contents
 pub mod ContentRuns
 pub mod Named
 pub mod Caused
+pub mod Excess
+pub mod ExcessRuns

@@ -1,10 +1,9 @@
--- After any events at most so many containers wait, and those given up as too much are the oldest.
-use Rattle.std.proofs.Common.{◌≡◌, ℕ, ◌+◌, ◌-◌, ◌≤◌, ◌==◌, ◌&&◌, nat_lt, List, [], ◌∷◌, refl, ◌∙◌, ap, arith, Bool, true, false, cond}
+-- After any events at most so many containers wait.
+use Rattle.std.proofs.Common.{◌≡◌, ℕ, ◌+◌, ◌-◌, ◌≤◌, ◌==◌, ◌&&◌, nat_lt, List, [], ◌∷◌, refl, arith, Bool, true, false, cond}
 use Rattle.std.specs.Prelude.{Option, Some, None}
 use Rattle.std.proofs.lemmas.Bool.Decides.{nat_tests}
 use Rattle.std.proofs.lemmas.List.Sums.{sum_by-cons}
 use Rattle.units.specs.declared.request.Operation.TheVariants.{Create}
-use Rattle.sessions.specs.Trace.Move.{Drops}
 use Rattle.smf_core.specs.declared.setup.SmfSetup.{SmfSetup}
 use Rattle.smf_core.specs.declared.session.Why.TheVariants.{HeldFull}
 use Rattle.smf_core.specs.declared.session.Place.TheVariants.{GivenUp}
@@ -15,9 +14,8 @@ use Rattle.smf_core.specs.declared.event.SmfEvent.TheVariants.{Attach, Start, Co
 use Rattle.smf_core.specs.Settle.{is_waiting, settled}
 use Rattle.smf_core.specs.Freeze.{waiting_count, move_oldest, freeze_due, with_request}
 use Rattle.smf_core.specs.Machine.{machine_after, session_of, touches, effect, finished, fresh, added_by}
-use Rattle.smf_core.specs.Trace.{drop_moves}
 use Rattle.smf_core.specs.History.{history}
-use Rattle.smf_core.specs.Limits.{WaitsAtMost, given_up_beyond, dropped_beyond, IsExcess}
+use Rattle.smf_core.specs.Limits.{WaitsAtMost}
 use Rattle.smf_core.proofs.Lifting.{With, IsKept, nothing, over_all}
 
 count_cons : (h : Holding) (hs : List Holding) → waiting_count (h ∷ hs) ≡ cond (is_waiting h.place) 1 0 + waiting_count hs
@@ -90,43 +88,3 @@ waits_with most t (Some s) h = h
 pub waits_run : (setup : SmfSetup) (events : List SmfEvent) (number : ℕ) → WaitsAtMost setup.held_max (session_of number (machine_after setup events).sessions)
 waits_run setup events number =
     waits_with setup.held_max (history nothing setup events number) (session_of number (machine_after setup events).sessions) (over_all setup (Waits setup.held_max) nothing (kept_within setup) events number)
-
--- which are given up
-
-over : (most total : ℕ) → nat_lt 0 (total - most) ≡ nat_lt most total
-over most total = grind (arith, nat_tests)
-
-record IsExcessOf (most w : ℕ) (hs : List Holding) : Type 0 where
-  places : move_oldest (w - most) (GivenUp HeldFull) hs ≡ given_up_beyond most hs
-  moves : drop_moves (w - most) hs ≡ dropped_beyond most hs
-
-record TurnsTo (b : Bool) (most total : ℕ) (h : Holding) (hs : List Holding) : Type 0 where
-  places : cond b (record h { place = GivenUp HeldFull } ∷ move_oldest (total - most - 1) (GivenUp HeldFull) hs) (h ∷ move_oldest (total - most) (GivenUp HeldFull) hs)
-      ≡ cond b (record h { place = GivenUp HeldFull } ∷ given_up_beyond most hs) (h ∷ given_up_beyond most hs)
-  moves : cond b (Drops h.container.lsn ∷ drop_moves (total - most - 1) hs) (drop_moves (total - most) hs) ≡ cond b (Drops h.container.lsn ∷ dropped_beyond most hs) (dropped_beyond most hs)
-
-turn : (a b : Bool) (most total w : ℕ) (h : Holding) (hs : List Holding) → total ≡ cond a 1 0 + w → nat_lt most total ≡ b → IsExcessOf most w hs → TurnsTo (a && b) most total h hs
-turn true true most total w h hs e test k = let same : total - most - 1 ≡ w - most = omega (arith, e) in record {
-  places = ap (λ n. record h { place = GivenUp HeldFull } ∷ move_oldest n (GivenUp HeldFull) hs) same ∙ ap (λ xs. record h { place = GivenUp HeldFull } ∷ xs) k.places;
-  moves = ap (λ n. Drops h.container.lsn ∷ drop_moves n hs) same ∙ ap (λ xs. Drops h.container.lsn ∷ xs) k.moves;
-}
-turn true false most total w h hs e test k = let same : total - most ≡ w - most = grind (arith, nat_tests, test, e) in record {
-  places = ap (λ n. h ∷ move_oldest n (GivenUp HeldFull) hs) same ∙ ap (λ xs. h ∷ xs) k.places;
-  moves = ap (λ n. drop_moves n hs) same ∙ k.moves;
-}
-turn false b most total w h hs e test k = let same : total - most ≡ w - most = omega (arith, e) in record {
-  places = ap (λ n. h ∷ move_oldest n (GivenUp HeldFull) hs) same ∙ ap (λ xs. h ∷ xs) k.places;
-  moves = ap (λ n. drop_moves n hs) same ∙ k.moves;
-}
-
-pub excess : (most : ℕ) (hs : List Holding) → IsExcess most hs
-excess most [] = record { places = refl; moves = refl }
-excess most (h ∷ hs) =
-    let k : IsExcess most hs = excess most hs in
-    let total : ℕ = waiting_count (h ∷ hs) in
-    let t : TurnsTo (is_waiting h.place && nat_lt most total) most total h hs =
-    turn (is_waiting h.place) (nat_lt most total) most total (waiting_count hs) h hs (count_cons h hs) refl (record { places = k.places; moves = k.moves }) in
-    record {
-      places = ap (λ b. cond (is_waiting h.place && b) (record h { place = GivenUp HeldFull } ∷ move_oldest (total - most - 1) (GivenUp HeldFull) hs) (h ∷ move_oldest (total - most) (GivenUp HeldFull) hs)) (over most total) ∙ t.places;
-      moves = ap (λ b. cond (is_waiting h.place && b) (Drops h.container.lsn ∷ drop_moves (total - most - 1) hs) (drop_moves (total - most) hs)) (over most total) ∙ t.moves;
-    }

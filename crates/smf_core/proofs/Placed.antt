@@ -16,7 +16,7 @@ use Rattle.smf_core.specs.declared.session.Holding.{Holding}
 use Rattle.smf_core.specs.Settle.{is_open, is_waiting, close}
 use Rattle.smf_core.specs.Freeze.{move_oldest}
 use Rattle.smf_core.specs.Trace.{close_moves, closes_of, drop_moves, unanswered}
-use Rattle.smf_core.specs.Places.{place_by, place_of, closed_holding, AreInOrder}
+use Rattle.smf_core.specs.Places.{place_closed, place_by, place_of, closed_holding, AreInOrder}
 use Rattle.smf_core.proofs.TraceLaws.{unclosed_unused}
 
 -- a container is as the moves leave it, and while it is open it is not given up
@@ -24,6 +24,11 @@ pub record IsAt (t : List Move) (h : Holding) : Type 0 where
   pub place : h.place ≡ place_of t h.container.lsn
   pub closed : closed_holding h ≡ closed_as t h.container.lsn
   pub untouched : closed_as t h.container.lsn ≡ None → given_up t h.container.lsn ≡ None
+
+-- the place of a closed container that is not given up, from what is read of it
+pub placed_by : (c : Option Closed) (g : Option Cause) (x y : Bool) (v : Closed) (a b : Bool) → c ≡ Some v → g ≡ None → x ≡ a → y ≡ b → place_by c g x y ≡ place_closed None a b
+placed_by c g x y v a b ec eg ex ey =
+    ap (λ o. place_by o g x y) ec ∙ ap (λ o. place_by (Some v) o x y) eg ∙ ap (λ z. place_by (Some v) None z y) ex ∙ ap (λ z. place_by (Some v) None a z) ey
 
 -- what a place says
 
@@ -186,7 +191,7 @@ own_drop t h waits a =
       untouched = λ e. absurd (let f : None ≡ Some w.closed = sym e ∙ w.is_closed in cc);
     }
 
-head_stays : (t : List Move) (h : Holding) (next : ℕ) (hs : List Holding) (most : ℕ) → AreInOrder next hs → h.container.lsn < next → IsAt t h → IsAt (drop_moves most hs ++ t) h
+pub head_stays : (t : List Move) (h : Holding) (next : ℕ) (hs : List Holding) (most : ℕ) → AreInOrder next hs → h.container.lsn < next → IsAt t h → IsAt (drop_moves most hs ++ t) h
 head_stays t h next [] most o l a = a
 head_stays t h next (g ∷ hs) most o l a = at (is_waiting g.place && nat_lt 0 most) (λ n. head_stays t h (next + 1) hs n o.1 (omega arith) a)
   where

@@ -176,7 +176,7 @@ never (Some c) b later e h = cc
 never None true later e h = cc
 never None false later e h = cc
 
-first_cause : (o : Option Cause) (b : Bool) (later w : Cause) → or_cause o b later ≡ Some w → (o ≡ Some w) ⊎ (b ≡ true)
+pub first_cause : (o : Option Cause) (b : Bool) (later w : Cause) → or_cause o b later ≡ Some w → (o ≡ Some w) ⊎ (b ≡ true)
 first_cause (Some c) b later w h = inl h
 first_cause None true later w h = inr refl
 first_cause None false later w h = cc

@@ -20,3 +20,4 @@ pub mod Exact
 pub mod Contents
 pub mod RequestNames
 pub mod Causes
+pub mod Excess

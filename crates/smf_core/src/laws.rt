@@ -1,19 +1,19 @@
 //! What holds of all lists of events.
-ghost use Rattle.std.specs.Prelude.{◌≡◌, ◌++◌, ℕ, List};
+ghost use Rattle.std.specs.Prelude.{◌≡◌, ◌++◌, ◌∷◌, ℕ, List};
 ghost use Rattle.smf_core.specs.declared.setup.SmfSetup.{SmfSetup};
 ghost use Rattle.smf_core.specs.declared.event.SmfEvent.{SmfEvent};
 ghost use Rattle.smf_core.specs.Machine.{machine_after, session_of, answer_of};
 ghost use Rattle.smf_core.specs.Forward.{IsLaterSession};
 ghost use Rattle.sessions.specs.Trace.{IsTrace};
 ghost use Rattle.smf_core.specs.Trace.{trace, moves_if, AgreesWith};
-ghost use Rattle.smf_core.specs.declared.session.Holding.{Holding};
 ghost use Rattle.smf_core.specs.Places.{StandsAsMoved};
 ghost use Rattle.smf_core.specs.Exact.{ArePlacedExactly};
 ghost use Rattle.smf_core.specs.Contents.{AreContents};
 ghost use Rattle.smf_core.specs.RequestNames.{AreNamed};
 ghost use Rattle.smf_core.specs.Causes.{AreCaused};
+ghost use Rattle.smf_core.specs.Excess.{EndsEvent};
 ghost use Rattle.smf_core.specs.Prefixes.{AreStanding};
-ghost use Rattle.smf_core.specs.Limits.{WaitsAtMost, IsExcess};
+ghost use Rattle.smf_core.specs.Limits.{WaitsAtMost};
 ghost use Rattle.smf_core.specs.Reports.{reports, StandsByReports};
 ghost use Rattle.smf_core.specs.GroupSteps.{steps};
 ghost use Rattle.smf_core.specs.Quotas.{StandsBySteps, NoneIsDue};
@@ -52,12 +52,10 @@ pub fn requests_stand()
     ensures { (setup : SmfSetup) (more events : List SmfEvent) (number : ℕ) → AreStanding setup more events number }
 {}
 
-/// A law of events; it does nothing. After any events at most the setup's greatest number of closed containers wait. What is given up as
-/// too much are the oldest: a waiting container is given up exactly where more than that number wait whose numbers are at least its own
-/// (this product's own).
+/// A law of events; it does nothing. After any events at most the setup's greatest number of closed containers of a session wait (this
+/// product's own).
 pub fn few_wait()
-    ensures few { (setup : SmfSetup) (events : List SmfEvent) (number : ℕ) → WaitsAtMost setup.held_max (session_of number (machine_after setup events).sessions) }
-    ensures oldest { (most : ℕ) (holdings : List Holding) → IsExcess most holdings }
+    ensures { (setup : SmfSetup) (events : List SmfEvent) (number : ℕ) → WaitsAtMost setup.held_max (session_of number (machine_after setup events).sessions) }
 {}
 
 /// A law of events; it does nothing. After any events the reports of a rating group that were counted are numbered 1, 2, 3 without a gap,
@@ -99,4 +97,11 @@ pub fn requests_are_named()
 pub fn replies_are_caused()
     ensures { (setup : SmfSetup) (event : SmfEvent) (events : List SmfEvent) (number : ℕ)
         → AreCaused event number (trace setup events number) (moves_if (machine_after setup events) number event (answer_of (machine_after setup events) event)) }
+{}
+
+/// A law of events; it does nothing. What an event does to a session ends with what it gives up as too much: by the moves up to its
+/// freezing, exactly each closed container that waits and from whose number on more than the setup's greatest number wait (this product's
+/// own).
+pub fn oldest_are_given_up()
+    ensures { (setup : SmfSetup) (event : SmfEvent) (events : List SmfEvent) (number : ℕ) → EndsEvent setup.held_max (trace setup events number) (trace setup (event ∷ events) number) }
 {}
