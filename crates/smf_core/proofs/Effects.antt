@@ -38,7 +38,8 @@ use Rattle.smf_core.specs.Replies.{is_final_for, is_answer_to, answer_holding, r
 use Rattle.smf_core.specs.Machine.{is_live, is_ended, gate_in, gate_for, is_passing, expected_of, count_answer, reply_answer}
 use Rattle.smf_core.specs.Trace.{closes_of, closes_all, ending_moves, reply_moves, unanswered}
 use Rattle.smf_core.specs.Places.{place_by, place_of, closed_holding, AreInOrder}
-use Rattle.smf_core.proofs.TraceLaws.{newest_is, IsNewest, is_lost, unclosed_kept}
+use Rattle.smf_core.specs.Apart.{is_lost}
+use Rattle.smf_core.proofs.TraceLaws.{newest_is, IsNewest, unclosed_kept}
 use Rattle.smf_core.proofs.Placed.{IsAt, unclosed_by, order_map, all_map, closed_with}
 use Rattle.smf_core.proofs.Frozen.{answered_at, given_at}
 use Rattle.smf_core.proofs.Held.{Stands, length_map, same_stands, closed_stands, same_map, when, close_when, any_stands}

@@ -23,7 +23,8 @@ use Rattle.smf_core.specs.Machine.{machine_after, session_of}
 use Rattle.smf_core.specs.Trace.{trace, unanswered}
 use Rattle.smf_core.specs.Places.{why_of, place_by}
 use Rattle.smf_core.specs.Exact.{IsAsked, IsPlacedExactly, ArePlacedExactly}
-use Rattle.smf_core.proofs.TraceLaws.{uses_settled, unclosed_unused, is_lost, NewestBy, newest_by, unanswered_asked, once, given_apart, lost_given}
+use Rattle.smf_core.specs.Apart.{is_lost}
+use Rattle.smf_core.proofs.TraceLaws.{uses_settled, unclosed_unused, NewestBy, newest_by, unanswered_asked, once, given_apart, lost_given}
 use Rattle.smf_core.proofs.Placed.{IsAt, placed_by, unclosed_by, is_waiting_by}
 use Rattle.smf_core.proofs.Lifting.{With}
 use Rattle.smf_core.proofs.Traces.{StandsWhole, whole_run}

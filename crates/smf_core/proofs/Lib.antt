@@ -27,3 +27,4 @@ pub mod Named
 pub mod Caused
 pub mod Excess
 pub mod ExcessRuns
+pub mod Apart

@@ -10,6 +10,7 @@ use Rattle.sessions.specs.Trace.Move.{Closes, Drops, Freezes, Attempts, NotSent,
 use Rattle.sessions.specs.Trace.Phase.{Idle, Asked, Released, Unsent, Refused}
 use Rattle.sessions.specs.Trace.Cause.{WasNotSent, HeldFull, WasRefused}
 use Rattle.smf_core.specs.Trace.{unanswered}
+use Rattle.smf_core.specs.Apart.{is_lost}
 
 -- answered requests are among all
 pub uses_settled : (t : List Move) (k : ℕ) → uses k (settled t) ≤ uses k (requests t)
@@ -64,14 +65,6 @@ unclosed_unused (Answers p ∷ t) k v h = unclosed_unused t k v.1 h
 unclosed_unused (Freezes q ∷ t) k v h =
     let none : occurs_in k q.usage ≡ 0 = no_use (occurs_in k q.usage) (λ l. let w : IsWaiting t k = v.0.waiting k l in let e : None ≡ Some w.closed = sym h ∙ w.is_closed in cc) in
     omega (arith, none, unclosed_unused t k v.1 h)
-
--- nothing will be answered any more
-abbrev pub is_lost : Phase → Bool
-is_lost Idle = false
-is_lost Asked = false
-is_lost Released = false
-is_lost Unsent = true
-is_lost Refused = true
 
 asked_stands : (p : Phase) → p ≡ Asked → is_lost p ≡ false
 asked_stands p e = ap is_lost e

@@ -21,3 +21,4 @@ pub mod Contents
 pub mod RequestNames
 pub mod Causes
 pub mod Excess
+pub mod Apart

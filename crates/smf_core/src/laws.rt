@@ -12,6 +12,7 @@ ghost use Rattle.smf_core.specs.Contents.{AreContents};
 ghost use Rattle.smf_core.specs.RequestNames.{AreNamed};
 ghost use Rattle.smf_core.specs.Causes.{AreCaused};
 ghost use Rattle.smf_core.specs.Excess.{EndsEvent};
+ghost use Rattle.smf_core.specs.Apart.{RequestsAreApart, SessionsAreApart};
 ghost use Rattle.smf_core.specs.Prefixes.{AreStanding};
 ghost use Rattle.smf_core.specs.Limits.{WaitsAtMost};
 ghost use Rattle.smf_core.specs.Reports.{reports, StandsByReports};
@@ -104,4 +105,12 @@ pub fn replies_are_caused()
 /// own).
 pub fn oldest_are_given_up()
     ensures { (setup : SmfSetup) (event : SmfEvent) (events : List SmfEvent) (number : ℕ) → EndsEvent setup.held_max (trace setup events number) (trace setup (event ∷ events) number) }
+{}
+
+/// A law of events; it does nothing. After any events no container of a session is in two requests; what is given up is in no request with
+/// a final success, and in no request at all unless the session was refused or given up unsent; and only the newest request may be a Release.
+/// No two sessions have one number (TS 32.290, 5.3.2).
+pub fn requests_are_apart()
+    ensures requests { (setup : SmfSetup) (events : List SmfEvent) (number : ℕ) → RequestsAreApart (trace setup events number) }
+    ensures sessions { (setup : SmfSetup) (events : List SmfEvent) → SessionsAreApart (machine_after setup events).sessions }
 {}
