@@ -10,12 +10,11 @@ use Rattle.units.specs.declared.request.Request.{Request}
 use Rattle.units.specs.declared.reply.Reply.{Reply}
 use Rattle.units.specs.declared.reply.Reply.TheVariants.{Created, Updated, Released, Refused}
 use Rattle.quotas.specs.Due.{due_of}
-use Rattle.quotas.specs.Laws.{FitsGranted}
+use Rattle.quotas.specs.Laws.{FitsGranted, DueByTheList}
 use Rattle.quotas.specs.Quota.{gate_of, asked, frozen, answered, used, fired}
 use Rattle.quotas.specs.Steps.{quota_after}
 use Rattle.quotas.specs.declared.step.Step.{Step}
 use Rattle.quotas.specs.declared.step.Step.TheVariants.{Asked, Used}
-use Rattle.quotas.proofs.ByList.{due_by_list}
 use Rattle.smf_core.specs.declared.setup.SmfSetup.{SmfSetup}
 use Rattle.smf_core.specs.declared.session.Entry.{Entry}
 use Rattle.smf_core.specs.declared.session.Session.{Session}
@@ -26,7 +25,8 @@ use Rattle.smf_core.specs.Freeze.{next_operation, freeze_by, freeze_entry, with_
 use Rattle.smf_core.specs.Traffic.{count_entry, or_new, asked_entry, with_asked, detached}
 use Rattle.smf_core.specs.Replies.{info_of, answer_entry, answered_by}
 use Rattle.smf_core.specs.Machine.{machine_after, session_of, touches, effect, finished, fresh, added_by}
-use Rattle.smf_core.specs.GroupSteps.{on_entry, fired_step, frozen_step, finish_steps, used_step, answered_step, reply_step, asked_step, effect_steps, asked_steps, attach_steps, added_steps, steps_in, steps}
+use Rattle.smf_core.specs.GroupSteps.{on_entry, fired_step, frozen_step, finish_steps, used_step, answered_step, reply_step}
+use Rattle.smf_core.specs.Came.{asked_step, effect_steps, asked_steps, attach_steps, added_steps, steps_in, steps}
 use Rattle.smf_core.specs.Quotas.{EntryIsOfSteps, StandsBySteps}
 use Rattle.smf_core.proofs.Runs.{number-next}
 use Rattle.smf_core.proofs.Lookups.{entry_then, found_mapped, found_asked}
@@ -171,21 +171,24 @@ on_kept setup group = record {
   added = λ now number event. attached setup now number group event;
 }
 
--- what the quota is gives what is due and the gate
-of_steps : (t : List Step) (o : Option Entry) → Follows t o → EntryIsOfSteps t o
-of_steps t None h = h
-of_steps t (Some e) h = record {
+-- what the quota is gives what is due and the gate, by the law of quotas
+
+abbrev pub DueIsByList : Type 0
+DueIsByList = (t : List Step) → FitsGranted (quota_after t).standing → DueByTheList t
+
+of_steps : DueIsByList → (t : List Step) (o : Option Entry) → Follows t o → EntryIsOfSteps t o
+of_steps law t None h = h
+of_steps law t (Some e) h = record {
   quota = h;
   due = λ fits open_container unsafe_hour now limits.
-      ap (λ q. due_of q open_container unsafe_hour now limits) h
-      ∙ (due_by_list t (subst (λ q. FitsGranted q.standing) h fits)).due open_container unsafe_hour now limits;
-  gate = λ fits. ap gate_of h ∙ (due_by_list t (subst (λ q. FitsGranted q.standing) h fits)).gate;
+      ap (λ q. due_of q open_container unsafe_hour now limits) h ∙ (law t (subst (λ q. FitsGranted q.standing) h fits)).due open_container unsafe_hour now limits;
+  gate = λ fits. ap gate_of h ∙ (law t (subst (λ q. FitsGranted q.standing) h fits)).gate;
 }
 
-with_steps : (group : ℕ) (t : List Step) (o : Option Session) → With (On group) t o → StandsBySteps group t o
-with_steps group t None h = h
-with_steps group t (Some s) h = of_steps t (entry_of group s.groups) h
+with_steps : DueIsByList → (group : ℕ) (t : List Step) (o : Option Session) → With (On group) t o → StandsBySteps group t o
+with_steps law group t None h = h
+with_steps law group t (Some s) h = of_steps law t (entry_of group s.groups) h
 
-pub steps_run : (setup : SmfSetup) (events : List SmfEvent) (number group : ℕ) → StandsBySteps group (steps setup events number group) (session_of number (machine_after setup events).sessions)
-steps_run setup events number group =
-    with_steps group (steps setup events number group) (session_of number (machine_after setup events).sessions) (over_all setup (On group) (steps_in group) (on_kept setup group) events number)
+pub steps_run : DueIsByList → (setup : SmfSetup) (events : List SmfEvent) (number group : ℕ) → StandsBySteps group (steps setup events number group) (session_of number (machine_after setup events).sessions)
+steps_run law setup events number group =
+    with_steps law group (steps setup events number group) (session_of number (machine_after setup events).sessions) (over_all setup (On group) (steps_in group) (on_kept setup group) events number)

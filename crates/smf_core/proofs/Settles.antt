@@ -6,8 +6,10 @@ use Rattle.std.proofs.lemmas.Bool.{eqb-true}
 use Rattle.units.specs.declared.report.Container.{Container}
 use Rattle.units.specs.declared.trigger.TriggerType.{TriggerType}
 use Rattle.meter.specs.Horizons.{has_unsafe}
-use Rattle.quotas.specs.Due.{in_open}
-use Rattle.quotas.proofs.Quiet.{quiet}
+use Rattle.quotas.specs.declared.state.Limits.{Limits}
+use Rattle.quotas.specs.Quota.{Quota}
+use Rattle.quotas.specs.Due.{due_of, in_open}
+use Rattle.quotas.specs.Laws.{IsQuietAfter}
 use Rattle.sessions.specs.Trace.{Move}
 use Rattle.smf_core.specs.declared.setup.SmfSetup.{SmfSetup}
 use Rattle.smf_core.specs.declared.session.Holding.{Holding}
@@ -92,38 +94,42 @@ shut_one b false now n o x h open_it g some = other_group n h (cond b (close now
 due_there : (setup : SmfSetup) (now : ℕ) (s : Session) (e : Entry) (h : Holding) → Finds s.groups e → (h.container.group == e.number) ≡ true → due_at setup now s (entry_of h.container.group s.groups) ≡ due_in setup now s e
 due_there setup now s e h finds g = ap (λ n. due_at setup now s (entry_of n s.groups)) (eqb-true h.container.group e.number g) ∙ ap (due_at setup now s) finds
 
-quiet_by : (o : Option TriggerType) (setup : SmfSetup) (now : ℕ) (s : Session) (e : Entry) (c after : Option Container) → due_with setup now s c e ≡ o → (o ≡ None → after ≡ c) → ((x : TriggerType) → o ≡ Some x → after ≡ None)
+-- the law of quotas
+abbrev pub FiresOnce : Type 0
+FiresOnce = (q : Quota) (open_container : Option Container) (unsafe_hour : Bool) (now : ℕ) (limits : Limits) (trigger : TriggerType) → due_of q open_container unsafe_hour now limits ≡ Some trigger → IsQuietAfter q now limits trigger
+
+quiet_by : FiresOnce → (o : Option TriggerType) (setup : SmfSetup) (now : ℕ) (s : Session) (e : Entry) (c after : Option Container) → due_with setup now s c e ≡ o → (o ≡ None → after ≡ c) → ((x : TriggerType) → o ≡ Some x → after ≡ None)
     → due_with setup now (settled setup now s) after (fire o e) ≡ None
-quiet_by None setup now s e c after due same gone = ap (λ a. due_with setup now s a e) (same refl) ∙ due
-quiet_by (Some x) setup now s e c after due same gone =
-    ap (λ a. due_with setup now (settled setup now s) a (fire (Some x) e)) (gone x refl) ∙ quiet e.quota c (in_open c (λ k. has_unsafe e.horizon k.last now)) now (limits_of setup s e.number) x due
+quiet_by law None setup now s e c after due same gone = ap (λ a. due_with setup now s a e) (same refl) ∙ due
+quiet_by law (Some x) setup now s e c after due same gone =
+    ap (λ a. due_with setup now (settled setup now s) a (fire (Some x) e)) (gone x refl) ∙ law e.quota c (in_open c (λ k. has_unsafe e.horizon k.last now)) now (limits_of setup s e.number) x due
 
 fire_number : (o : Option TriggerType) (e : Entry) → (fire o e).number ≡ e.number
 fire_number None e = refl
 fire_number (Some x) e = refl
 
 -- a rating group once the session is settled
-entry_quiet : (setup : SmfSetup) (now : ℕ) (s : Session) (e : Entry) (o : Option TriggerType) → due_in setup now s e ≡ o → Finds s.groups e → due_with setup now (settled setup now s) (open_of e.number (settled setup now s).holdings) (fire o e) ≡ None
-entry_quiet setup now s e o due finds =
-    quiet_by o setup now s e (open_of e.number s.holdings) (open_of e.number (settled setup now s).holdings) due
+entry_quiet : FiresOnce → (setup : SmfSetup) (now : ℕ) (s : Session) (e : Entry) (o : Option TriggerType) → due_in setup now s e ≡ o → Finds s.groups e → due_with setup now (settled setup now s) (open_of e.number (settled setup now s).holdings) (fire o e) ≡ None
+entry_quiet law setup now s e o due finds =
+    quiet_by law o setup now s e (open_of e.number s.holdings) (open_of e.number (settled setup now s).holdings) due
     (λ none. ap container_in (find_same (is_open_of e.number) (close_due setup now s) s.holdings
     (λ h. unclosed (is_open h.place) (h.container.group == e.number) now e.number (due_at setup now s (entry_of h.container.group s.groups)) h refl (λ g. due_there setup now s e h finds g ∙ due ∙ none))))
     (λ x some. ap container_in (find_none (is_open_of e.number) (close_due setup now s) s.holdings
     (λ h. shut_one (is_open h.place) (h.container.group == e.number) now e.number (due_at setup now s (entry_of h.container.group s.groups)) x h refl refl (λ g. due_there setup now s e h finds g ∙ due ∙ some))))
 
-none_due : (setup : SmfSetup) (now : ℕ) (s : Session) (rest : List Entry) → AllByRecursion (Finds s.groups) rest → AllByRecursion (λ e. due_in setup now (settled setup now s) e ≡ None) (map (λ e. fire (due_in setup now s e) e) rest)
-none_due setup now s [] a = tt
-none_due setup now s (e ∷ rest) a = (
-  ap (λ n. due_with setup now (settled setup now s) (open_of n (settled setup now s).holdings) (fire (due_in setup now s e) e)) (fire_number (due_in setup now s e) e) ∙ entry_quiet setup now s e (due_in setup now s e) refl a.0,
-  none_due setup now s rest a.1,
+none_due : FiresOnce → (setup : SmfSetup) (now : ℕ) (s : Session) (rest : List Entry) → AllByRecursion (Finds s.groups) rest → AllByRecursion (λ e. due_in setup now (settled setup now s) e ≡ None) (map (λ e. fire (due_in setup now s e) e) rest)
+none_due law setup now s [] a = tt
+none_due law setup now s (e ∷ rest) a = (
+  ap (λ n. due_with setup now (settled setup now s) (open_of n (settled setup now s).holdings) (fire (due_in setup now s e) e)) (fire_number (due_in setup now s e) e) ∙ entry_quiet law setup now s e (due_in setup now s e) refl a.0,
+  none_due law setup now s rest a.1,
 )
 
-settled_once : (setup : SmfSetup) (now : ℕ) (s : Session) → AreApart s.groups → NoneIsDue setup now (Some s)
-settled_once setup now s apart = none_due setup now s s.groups (all_found s.groups apart)
+settled_once : FiresOnce → (setup : SmfSetup) (now : ℕ) (s : Session) → AreApart s.groups → NoneIsDue setup now (Some s)
+settled_once law setup now s apart = none_due law setup now s s.groups (all_found s.groups apart)
 
-due_with_whole : (setup : SmfSetup) (now : ℕ) (t : List Move) (o : Option Session) → With StandsWhole t o → NoneIsDue setup now o
-due_with_whole setup now t None h = tt
-due_with_whole setup now t (Some s) h = settled_once setup now s h.1.apart
+due_with_whole : FiresOnce → (setup : SmfSetup) (now : ℕ) (t : List Move) (o : Option Session) → With StandsWhole t o → NoneIsDue setup now o
+due_with_whole law setup now t None h = tt
+due_with_whole law setup now t (Some s) h = settled_once law setup now s h.1.apart
 
-pub settles_run : (setup : SmfSetup) (events : List SmfEvent) (number now : ℕ) → NoneIsDue setup now (session_of number (machine_after setup events).sessions)
-settles_run setup events number now = due_with_whole setup now (trace setup events number) (session_of number (machine_after setup events).sessions) (whole_run setup events number)
+pub settles_run : FiresOnce → (setup : SmfSetup) (events : List SmfEvent) (number now : ℕ) → NoneIsDue setup now (session_of number (machine_after setup events).sessions)
+settles_run law setup events number now = due_with_whole law setup now (trace setup events number) (session_of number (machine_after setup events).sessions) (whole_run setup events number)

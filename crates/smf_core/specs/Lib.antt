@@ -15,6 +15,7 @@ pub mod Prefixes
 pub mod GivenHorizons
 pub mod Reports
 pub mod GroupSteps
+pub mod Came
 pub mod Quotas
 pub mod Exact
 pub mod Contents

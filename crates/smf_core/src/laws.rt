@@ -16,8 +16,10 @@ ghost use Rattle.smf_core.specs.Apart.{RequestsAreApart, SessionsAreApart};
 ghost use Rattle.smf_core.specs.Prefixes.{AreStanding};
 ghost use Rattle.smf_core.specs.Limits.{WaitsAtMost};
 ghost use Rattle.smf_core.specs.Reports.{reports, StandsByReports};
-ghost use Rattle.smf_core.specs.GroupSteps.{steps};
+ghost use Rattle.smf_core.specs.Came.{steps};
 ghost use Rattle.smf_core.specs.Quotas.{StandsBySteps, NoneIsDue};
+
+use quotas::{by_whole_list, fires_once};
 
 /// A law of events; it does nothing. After any events each session is as its moves leave it: its requests are numbered 1, 2, 3, each
 /// after the first was frozen after a success of the one before, and the unanswered one is the newest (TS 32.290, 5.3.2).
@@ -72,13 +74,17 @@ pub fn containers_are_cuts()
 /// and of the sum over the reports since the freezing of that answer's request (TS 32.290, quota management).
 pub fn quotas_by_steps()
     ensures { (setup : SmfSetup) (events : List SmfEvent) (number group : ℕ) → StandsBySteps group (steps setup events number group) (session_of number (machine_after setup events).sessions) }
-{}
+{
+    by_whole_list();
+}
 
 /// A law of events; it does nothing. Once a session is settled at a moment, no trigger of its rating groups is due at that moment, so
 /// settling it again changes nothing (this product's own).
 pub fn settles_once()
     ensures { (setup : SmfSetup) (events : List SmfEvent) (number now : ℕ) → NoneIsDue setup now (session_of number (machine_after setup events).sessions) }
-{}
+{
+    fires_once();
+}
 
 /// A law of events; it does nothing. After any events each request of a session holds exactly the containers that waited as it was frozen
 /// and were among the 500 oldest, each in the entry of its rating group, with its amounts, trigger and moment as it was closed
