@@ -61,6 +61,10 @@ pub new_past_refusal : (b : Bool) (why : SmfRefusal) (rest : Result Seen SmfRefu
 new_past_refusal true why rest e = cc
 new_past_refusal false why rest e = (refl, e)
 
+not_true : (b : Bool) → not b ≡ true → b ≡ false
+not_true true e = cc
+not_true false e = refl
+
 not_not : (b : Bool) → not b ≡ false → b ≡ true
 not_not true e = refl
 not_not false e = cc
@@ -260,7 +264,7 @@ answered_with p t s u good asked holdings count request open_it h = record {
 answer_same : (h : Holding) → is_frozen h.place ≡ false → answer_holding h ≡ h
 answer_same h e = ap (λ b. cond b (record h { place = AnsweredPlace }) h) e
 
-close_same : (m : ℕ) (x : TriggerType) (h : Holding) → is_open h.place ≡ false → close_any m x h ≡ h
+pub close_same : (m : ℕ) (x : TriggerType) (h : Holding) → is_open h.place ≡ false → close_any m x h ≡ h
 close_same m x h e = ap (λ b. cond b (close m (Some x) h) h) e
 
 open_not_frozen : (p : Place) → is_open p ≡ true → is_frozen p ≡ false
@@ -287,14 +291,14 @@ swapped m x [] = refl
 swapped m x (h ∷ hs) = ap (λ y. y ∷ map (close_any m x) (map answer_holding hs)) (swapped_one m x h) ∙ ap (λ ys. answer_holding (close_any m x h) ∷ ys) (swapped m x hs)
 
 -- after every open container is closed none is open
-shut_one : (m : ℕ) (x : TriggerType) (h : Holding) → is_open (close_any m x h).place ≡ false
+pub shut_one : (m : ℕ) (x : TriggerType) (h : Holding) → is_open (close_any m x h).place ≡ false
 shut_one m x h = at (is_open h.place) refl
   where
     at : (b : Bool) → is_open h.place ≡ b → is_open (cond b (close m (Some x) h) h).place ≡ false
     at true e = refl
     at false e = e
 
-shut_all : (m : ℕ) (x : TriggerType) (hs : List Holding) → AllByRecursion (λ h. is_open h.place ≡ false) (map (close_any m x) hs)
+pub shut_all : (m : ℕ) (x : TriggerType) (hs : List Holding) → AllByRecursion (λ h. is_open h.place ≡ false) (map (close_any m x) hs)
 shut_all m x [] = tt
 shut_all m x (h ∷ hs) = (shut_one m x h, shut_all m x hs)
 
@@ -339,6 +343,10 @@ replied_stands now number (Refused problem) q t s is final h =
 answered_stands_by : (now number : ℕ) (p : Reply) (o : Option Request) (t : List Move) (s : Session) → s.request ≡ o → is_answer_to number p o ≡ true → Stands t s → Stands (reply_moves now p o s ++ t) (answered_by now p o s)
 answered_stands_by now number p None t s is new h = h
 answered_stands_by now number p (Some q) t s is new h = replied_stands now number p q t s is (and_parts (q.number == number) (is_final_for q.operation p number) new).1 h
+
+pub is_open_session : (number : ℕ) (p : Reply) (s : Session) → reply_answer number p s ≡ Ok New → is_ended s.life ≡ false
+is_open_session number p s new =
+    not_true (is_ended s.life) (and_parts (not (is_ended s.life)) (is_answer_to number p s.request) (new_if (not (is_ended s.life) && is_answer_to number p s.request) new)).0
 
 pub is_final_answer : (number : ℕ) (p : Reply) (s : Session) → reply_answer number p s ≡ Ok New → is_answer_to number p s.request ≡ true
 is_final_answer number p s new =

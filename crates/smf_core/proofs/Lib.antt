@@ -28,3 +28,4 @@ pub mod Caused
 pub mod Excess
 pub mod ExcessRuns
 pub mod Apart
+pub mod Ended

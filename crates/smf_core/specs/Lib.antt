@@ -23,3 +23,4 @@ pub mod RequestNames
 pub mod Causes
 pub mod Excess
 pub mod Apart
+pub mod Ended

@@ -13,6 +13,7 @@ ghost use Rattle.smf_core.specs.RequestNames.{AreNamed};
 ghost use Rattle.smf_core.specs.Causes.{AreCaused};
 ghost use Rattle.smf_core.specs.Excess.{EndsEvent};
 ghost use Rattle.smf_core.specs.Apart.{RequestsAreApart, SessionsAreApart};
+ghost use Rattle.smf_core.specs.Ended.{HoldsNothing};
 ghost use Rattle.smf_core.specs.Prefixes.{AreStanding};
 ghost use Rattle.smf_core.specs.Limits.{WaitsAtMost};
 ghost use Rattle.smf_core.specs.Reports.{reports, StandsByReports};
@@ -119,4 +120,10 @@ pub fn oldest_are_given_up()
 pub fn requests_are_apart()
     ensures requests { (setup : SmfSetup) (events : List SmfEvent) (number : ℕ) → RequestsAreApart (trace setup events number) }
     ensures sessions { (setup : SmfSetup) (events : List SmfEvent) → SessionsAreApart (machine_after setup events).sessions }
+{}
+
+/// A law of events; it does nothing. After any events a session whose Release was answered, or that was refused or given up unsent, holds
+/// nothing: each of its containers was answered with a final success or is given up (this product's own).
+pub fn ended_sessions_hold_nothing()
+    ensures { (setup : SmfSetup) (events : List SmfEvent) (number : ℕ) → HoldsNothing (trace setup events number) (session_of number (machine_after setup events).sessions) }
 {}
