@@ -43,7 +43,7 @@ same_answered now (Updated answer) (Some q) s = refl
 same_answered now Released (Some q) s = refl
 same_answered now (Refused problem) (Some q) s = refl
 
-same_effect : (event : SmfEvent) (now : ℕ) (s : Session) → (effect now event s).number ≡ s.number
+pub same_effect : (event : SmfEvent) (now : ℕ) (s : Session) → (effect now event s).number ≡ s.number
 same_effect (Attach session subscriber groups moment) now s = refl
 same_effect (Start session group moment) now s = refl
 same_effect (Count session r) now s = refl

@@ -19,7 +19,12 @@ mod step;
 mod traffic;
 
 pub use event::SmfEvent;
-pub use laws::{places_go_on, requests_in_order};
+pub use laws::{
+    containers_are_cuts, ended_sessions_hold_nothing, few_wait, moves_may_follow,
+    oldest_are_given_up, places_by_moves, places_go_on, quotas_by_steps, replies_are_caused,
+    requests_are_apart, requests_are_named, requests_hold, requests_in_order, requests_stand,
+    settles_once,
+};
 pub use plain::{plain_after, plain_step};
 pub use plan::{Next, SmfPlan};
 pub use refusal::{Seen, SmfRefusal};
