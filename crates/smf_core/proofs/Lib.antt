@@ -1,4 +1,13 @@
-pub mod PutAll
 pub mod Agreement
 pub mod Runs
 pub mod Later
+pub mod Past
+pub mod Merged
+pub mod Wide
+pub mod Indexed
+pub mod Places
+pub mod Said
+pub mod Lengths
+pub mod KeptRight
+pub mod Nexts
+pub mod Found

@@ -5,6 +5,11 @@ pub mod Freeze
 pub mod Traffic
 pub mod Replies
 pub mod Machine
-pub mod Plan
+pub mod Draft
+pub mod Index
+pub mod Lookup
 pub mod Trace
 pub mod Forward
+pub mod Reads
+pub mod Caches
+pub mod Plan

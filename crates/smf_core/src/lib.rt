@@ -2,11 +2,16 @@
 #![tactic(auto)]
 
 mod answers;
+mod change;
 mod checks;
+mod draft;
 mod event;
 mod freeze;
+mod index;
+mod kept;
 mod laws;
 mod names;
+mod next;
 mod plain;
 mod plan;
 mod refusal;
@@ -21,7 +26,7 @@ mod traffic;
 pub use event::SmfEvent;
 pub use laws::{places_go_on, requests_in_order};
 pub use plain::{plain_after, plain_step};
-pub use plan::{Next, SmfPlan};
+pub use plan::SmfPlan;
 pub use refusal::{Seen, SmfRefusal};
 pub use session::{Entry, Holding, Layer, Life, Machine, Place, Session, Why};
 pub use setup::SmfSetup;

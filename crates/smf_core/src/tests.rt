@@ -1,10 +1,9 @@
-use crate::{Machine, Place, Seen, Smf, SmfEvent, SmfRefusal, SmfSetup, plain_after};
+use crate::{Machine, Seen, Smf, SmfEvent, SmfRefusal, SmfSetup, plain_after};
 use quotas::Gate;
 use std::alloc::Global;
 use std::test::Fail;
 use units::{
-    Amount, Answer, Code, Handling, List, Moment, Operation, Reply, Report, Request, Text,
-    TriggerType, UnitInfo,
+    Amount, Answer, Code, Handling, List, Moment, Operation, Reply, Report, Request, Text, UnitInfo,
 };
 
 const ATTACHED: u64 = 1767323045;
@@ -183,7 +182,7 @@ fn a_session_is_charged_by_plans(rt: HostRuntime) -> Result<(), Fail> {
     assert!(rt; smf.expected(7, 10) == 2);
     assert!(rt; smf.request(7).is_some());
     assert!(rt;
-        matches!(smf.holdings(7), [h] if h.trigger == Some(TriggerType::QuotaThreshold) && h.place == Place::Frozen)
+        smf.containers(7).len() == 1 && smf.held(7).len() == 1 && smf.sessions().len() == 1
     );
     Ok(())
 }
