@@ -33,4 +33,8 @@ pub use setup::SmfSetup;
 pub use smf::Smf;
 
 #[cfg(test)]
+mod test_draws;
+#[cfg(test)]
+mod test_rows;
+#[cfg(test)]
 mod tests;
