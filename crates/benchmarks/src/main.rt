@@ -8,6 +8,7 @@ mod message_turns;
 mod moment_turns;
 mod quota_turns;
 mod rating_turns;
+mod smf_turns;
 mod table_turns;
 
 use crate::account_turns::charges;
@@ -18,6 +19,7 @@ use crate::message_turns::{
 use crate::moment_turns::{copied_texts, read_texts, written_texts};
 use crate::quota_turns::turns_of_use;
 use crate::rating_turns::prices;
+use crate::smf_turns::{meter_turns, smf_times, smf_turns};
 use crate::table_turns::table_turns;
 use rows::number;
 use std::alloc::Global;
@@ -67,6 +69,8 @@ fn checksum(alloc: Global, call: &str, numbers: &[u64]) -> Result<Option<u64>, O
         ("accounts", [sessions, groups, active, turns]) => {
             charges(alloc, *sessions, *groups, *active, *turns).map(Some)
         }
+        ("smf", [sessions, turns]) => smf_turns(alloc, *sessions, *turns).map(Some),
+        ("smf-meter", [sessions, turns]) => meter_turns(alloc, *sessions, *turns).map(Some),
         ("table", [keys, turns]) => table_turns(alloc, *keys, *turns).map(Some),
         ("ber-read", [count]) => Ok(Some(read_records(alloc, *count)?)),
         ("ber-hash", [count]) => Ok(Some(hashed_records(alloc, *count)?)),
@@ -80,10 +84,24 @@ fn checksum(alloc: Global, call: &str, numbers: &[u64]) -> Result<Option<u64>, O
     }
 }
 
+// The times of reports to the SMF's machine, by the clock: of the first thousand, of all, and of the last thousand.
+fn print_times(rt: &HostRuntime, sessions: u64, turns: u64) -> io::Result<ExitCode> {
+    match smf_times(rt, sessions, turns)? {
+        Some([first, all, last]) => {
+            println!(rt; "{first} {all} {last}")?;
+            Ok(ExitCode::SUCCESS)
+        }
+        None => Ok(ExitCode::from(9)),
+    }
+}
+
 fn run(rt: &HostRuntime) -> io::Result<ExitCode> {
     let Ok((call, numbers)) = words(rt) else {
         return Ok(ExitCode::from(9));
     };
+    if let ("smf-times", [sessions, turns]) = (call.as_str(), numbers.as_slice()) {
+        return print_times(rt, *sessions, *turns);
+    }
     match checksum(rt.alloc(), call.as_str(), numbers.as_slice()) {
         Ok(Some(sum)) => {
             println!(rt; "{sum}")?;

@@ -4,14 +4,14 @@ ghost use Rattle.meter.specs.Meter.{is_too_large, may_join, trigger_of, extended
 use crate::horizon::{Horizon, is_split};
 use units::{Container, Report, TriggerType};
 
-// Whether the report passes the limits of one report.
+/// Whether a report passes the limits of one report: 2^40 octets up or down, 86,400 seconds (this product's own).
 pub fn is_large(report: &Report) -> bool
     ensures { result ≡ is_too_large report.now }
 {
     report.up > 1 << 40 || report.down > 1 << 40 || report.seconds > 86_400
 }
 
-// Whether the report may join the container.
+/// Whether a report may join an open container: no unsafe hour lies between, and the seconds fit (TS 32.255, 5.2.1).
 pub fn joins(horizon: &Option<Horizon>, container: &Container, report: &Report) -> bool
     ensures { result ≡ may_join horizon.now container.now report.now }
 {
@@ -19,7 +19,7 @@ pub fn joins(horizon: &Option<Horizon>, container: &Container, report: &Report) 
         && container.seconds.checked_add(report.seconds).is_some()
 }
 
-// What closes the container before a report that may not join it.
+/// What closes an open container before a report that may not join it (TS 32.255, 5.2.1).
 pub fn trigger_before(
     horizon: &Option<Horizon>,
     container: &Container,
@@ -34,7 +34,7 @@ pub fn trigger_before(
     }
 }
 
-// The container with the report.
+/// A container with a report more, whose sums fit their types.
 pub fn with_report(container: &Container, report: &Report) -> Container
     requires up { container.now.up + report.now.up < 2 ^ 64 }
     requires down { container.now.down + report.now.down < 2 ^ 64 }
@@ -52,7 +52,7 @@ pub fn with_report(container: &Container, report: &Report) -> Container
     }
 }
 
-// The container that the report opens.
+/// The container of this number that a report opens.
 pub fn first_of(lsn: u32, report: &Report) -> Container
     ensures { result ≡ opened lsn report.now }
 {

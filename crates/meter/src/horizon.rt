@@ -71,7 +71,7 @@ pub fn first_unsafe_hour(horizon: &Option<Horizon>, after: Moment) -> Option<u64
     }
 }
 
-// Whether an unsafe hour lies after the one moment and not after the other.
+/// Whether an unsafe hour lies after the one moment and not after the other (TS 32.291, tariffTimeChange).
 pub fn is_split(horizon: &Option<Horizon>, after: Moment, until: Moment) -> bool
     ensures { result ≡ has_unsafe horizon.now after until }
 {

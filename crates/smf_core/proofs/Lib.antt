@@ -1,4 +1,3 @@
-pub mod PutAll
 pub mod Agreement
 pub mod Runs
 pub mod Later
@@ -29,3 +28,13 @@ pub mod Excess
 pub mod ExcessRuns
 pub mod Apart
 pub mod Ended
+pub mod Past
+pub mod Merged
+pub mod Wide
+pub mod Indexed
+pub mod Places
+pub mod Said
+pub mod Lengths
+pub mod KeptRight
+pub mod Nexts
+pub mod Found

@@ -5,7 +5,9 @@ pub mod Freeze
 pub mod Traffic
 pub mod Replies
 pub mod Machine
-pub mod Plan
+pub mod Draft
+pub mod Index
+pub mod Lookup
 pub mod Trace
 pub mod Forward
 pub mod Places
@@ -24,3 +26,6 @@ pub mod Causes
 pub mod Excess
 pub mod Apart
 pub mod Ended
+pub mod Reads
+pub mod Caches
+pub mod Plan

@@ -1,34 +1,75 @@
--- A plan: what an event makes of the machine, as the sessions that take the place of others and the session that is added (this product's own).
-use Rattle.std.specs.Prelude.{◌≡◌, ◌⊎◌, ℕ, Option, Some, None, List, [], ◌∷◌, ◌++◌, slice_set, Ok, Err, option_and_then}
-use Rattle.units.specs.declared.request.Request.{Request}
-use Rattle.quotas.specs.declared.state.Gate.{Gate}
-use Rattle.quotas.specs.declared.state.Gate.TheVariants.{Waiting}
-use Rattle.smf_core.specs.declared.session.Holding.{Holding}
+-- A plan: what an event makes of the machine, as what it makes of the sessions that it touches and the session that it adds (this product's own).
+use Rattle.std.specs.Prelude.{◌≡◌, ◌⊎◌, ℕ, zero, suc, ◌+◌, ◌<◌, ◌≤◌, Option, Some, None, List, [], ◌∷◌, ◌++◌, length, filter, Ok, Err}
+use Rattle.smf_core.specs.declared.session.Layer.{Layer}
 use Rattle.smf_core.specs.declared.session.Session.{Session}
 use Rattle.smf_core.specs.declared.session.Machine.{Machine}
 use Rattle.smf_core.specs.declared.event.SmfEvent.{SmfEvent}
+use Rattle.smf_core.specs.declared.plan.RuleChange.{RuleChange}
+use Rattle.smf_core.specs.declared.plan.Change.{Change}
 use Rattle.smf_core.specs.declared.plan.Next.{Next}
+use Rattle.smf_core.specs.declared.plan.Next.TheVariants.{Nothing, One, All}
 use Rattle.smf_core.specs.declared.plan.SmfPlan.{SmfPlan}
 use Rattle.smf_core.specs.declared.refusal.SmfRefusal.{SmfRefusal}
 use Rattle.smf_core.specs.declared.refusal.SmfRefusal.TheVariants.{OutOfMemory}
-use Rattle.smf_core.specs.Machine.{gate_for, expected_of, answer_of, step}
+use Rattle.smf_core.specs.Machine.{answer_of, step}
+use Rattle.smf_core.specs.Index.{place_in}
+use Rattle.smf_core.specs.Reads.{is_held, containers_of}
+use Rattle.smf_core.specs.Caches.{merged, places_from, SaysSame, session_with, KeptAs, numbers_of}
 
--- each session takes its place
-abbrev pub put_all : List Next → List Session → List Session
-put_all [] sessions = sessions
-put_all (n ∷ ns) sessions = slice_set (put_all ns sessions) n.at n.session
+-- the trigger rules with those that are added
+abbrev pub rules_with : List Layer → Option RuleChange → List Layer
+rules_with rules None = rules
+rules_with rules (Some a) = rules ++ a.added
 
-abbrev pub listed : Option Session → List Session
-listed None = []
-listed (Some s) = s ∷ []
+-- a session as a change leaves it
+abbrev pub changed : Change → Session → Session
+changed c s = session_with c s (merged s.holdings c.moved) (rules_with s.rules c.rules)
 
--- the machine as the plan makes it
+abbrev pub RulesFit : Option RuleChange → List Layer → Type 0
+RulesFit None rules = Unit {0}
+RulesFit (Some a) rules = SaysSame (rules ++ a.added) a.said
+
+-- a change fits to a session: it was made for it
+pub record Fits (c : Change) (s : Session) : Type 0 where
+  pub enough : length (filter is_held s.holdings) ≤ length c.moved
+  pub one : length c.moved ≤ length (filter is_held s.holdings) + 1
+  pub containers : c.containers ≡ containers_of c.moved
+  pub live : c.live ≡ filter is_held c.moved
+  pub places : c.places ≡ places_from 0 (merged s.holdings c.moved)
+  pub held : c.held ≡ containers_of c.live
+  pub rules : RulesFit c.rules s.rules
+
+-- at a place
+abbrev pub map_at : ℕ → (Session → Session) → List Session → List Session
+map_at at f [] = []
+map_at zero f (s ∷ sessions) = f s ∷ sessions
+map_at (suc at) f (s ∷ sessions) = s ∷ map_at at f sessions
+
+-- the sessions as changes leave them, one after another
+abbrev pub changed_all : List Change → List Session → List Session
+changed_all [] sessions = sessions
+changed_all (c ∷ changes) [] = []
+changed_all (c ∷ changes) (s ∷ sessions) = changed c s ∷ changed_all changes sessions
+
+-- the sessions as the plan leaves them
+abbrev pub sessions_next : Next → List Session → List Session
+sessions_next Nothing sessions = sessions
+sessions_next (One at change) sessions = map_at at (changed change) sessions
+sessions_next (All changes) sessions = changed_all changes sessions
+
+-- the session that it adds, if it does
+abbrev pub added_in : Option KeptAs → List Session
+added_in None = []
+added_in (Some k) = k.session ∷ []
+
+-- the machine as the plan leaves it
 abbrev pub applied : SmfPlan → Machine → Machine
-applied plan m = record { setup = m.setup; moment = plan.moment; sessions = put_all plan.next m.sessions ++ listed plan.added }
+applied plan m = record { setup = m.setup; moment = plan.moment; sessions = sessions_next plan.next m.sessions ++ added_in plan.added }
 
--- what callers see: the machine, and for how many more sessions there is a place
+-- what callers see: the machine; and what they need not look at, how it is kept, and for how many more sessions there is a place
 pub record Shown : Type 0 where
   pub machine : Machine
+  pub kept : List KeptAs
   pub room : ℕ
 
 -- the plan of an event that is not refused: it tells whether the event is new, and makes the machine that the event makes
@@ -36,22 +77,34 @@ pub record IsPlanOf (plan : SmfPlan) (m : Machine) (event : SmfEvent) : Type 0 w
   pub seen : answer_of m event ≡ Ok plan.seen
   pub made : applied plan m ≡ step m event
 
+-- a change fits to a session, and there is a place for the container that it may open
+abbrev pub IsReadyFor : Change → KeptAs → Type 0
+IsReadyFor c k = Fits c k.session × (0 < k.room)
+
+abbrev pub IsReadyAt : ℕ → Change → List KeptAs → Type 0
+IsReadyAt at c [] = ⊥
+IsReadyAt zero c (k ∷ kept) = IsReadyFor c k
+IsReadyAt (suc at) c (k ∷ kept) = IsReadyAt at c kept
+
+abbrev pub AreReady : List Change → List KeptAs → Type 0
+AreReady [] kept = Unit {0}
+AreReady (c ∷ changes) [] = ⊥
+AreReady (c ∷ changes) (k ∷ kept) = IsReadyFor c k × AreReady changes kept
+
+abbrev pub NextIsReady : Next → List KeptAs → Type 0
+NextIsReady Nothing kept = Unit {0}
+NextIsReady (One at change) kept = IsReadyAt at change kept
+NextIsReady (All changes) kept = AreReady changes kept
+
+abbrev pub AddedIsReady : Option KeptAs → List Session → ℕ → Type 0
+AddedIsReady None sessions room = Unit {0}
+AddedIsReady (Some k) sessions room = (place_in (numbers_of sessions) k.session.number ≡ None) × (0 < room)
+
+-- a plan is the last that was made for a machine
+pub record IsReady (plan : SmfPlan) (s : Shown) : Type 0 where
+  pub next : NextIsReady plan.next s.kept
+  pub added : AddedIsReady plan.added s.machine.sessions s.room
+
 -- the refusal of an event, or want of memory
 abbrev pub IsRefused : SmfRefusal → Machine → SmfEvent → Type 0
 IsRefused e m event = (e ≡ OutOfMemory) ⊎ (answer_of m event ≡ Err e)
-
--- what is read of a session that may not be there
-abbrev pub request_in : Option Session → Option Request
-request_in s = option_and_then (λ x. x.request) s
-
-abbrev pub gate_at : ℕ → Option Session → Gate
-gate_at group None = Waiting
-gate_at group (Some s) = gate_for group s
-
-abbrev pub expected_at : ℕ → Option Session → ℕ
-expected_at group None = 1
-expected_at group (Some s) = expected_of group s
-
-abbrev pub holdings_in : Option Session → List Holding
-holdings_in None = []
-holdings_in (Some s) = s.holdings

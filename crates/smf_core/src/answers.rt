@@ -1,8 +1,12 @@
 ghost use Rattle.std.specs.Prelude.{◌≡◌, ◌==◌, ◌++◌, ◌∷◌, [], IfOk, OnOk, map};
 ghost use Rattle.std.specs.List.{find};
 ghost use Rattle.std.specs.Option.{option_copied};
+ghost use Rattle.smf_core.specs.Caches.{AddsLayers, layers_by, layers_for, layers_added};
+ghost use Rattle.smf_core.specs.Draft.{whole};
 ghost use Rattle.smf_core.specs.Replies.{is_bad_request, is_final_refusal, is_final_for, is_answer_to, answer_holding, info_of, horizon_after, answer_entry, group_layers, layers_of, succeeded, released, replied, answered_by};
 
+use crate::draft::{Draft, Pending, request_of, rules_of};
+use crate::event::SmfEvent;
 use crate::freeze::is_frozen_place;
 use crate::session::{Entry, Holding, Layer, Place, Session, Why};
 use crate::traffic::{end, end_for};
@@ -160,35 +164,87 @@ fn with_rules(
     Ok(layers)
 }
 
+fn layers_in_reply(
+    alloc: Global,
+    reply: &Reply,
+    groups: &[Entry],
+) -> Result<Option<List<Layer>>, OutOfMemory>
+    ensures { IfOk result (λ r. AddsLayers r (layers_by reply.now groups.now)) }
+{
+    match reply {
+        Reply::Created { answer, .. } | Reply::Updated { answer } => {
+            let layers = with_rules(answer, groups, &List::new(alloc))?;
+            Ok(Some(layers))
+        }
+        Reply::Released | Reply::Refused { .. } => Ok(None),
+    }
+}
+
+fn layers_answered(
+    alloc: Global,
+    reply: &Reply,
+    request: &Option<Request>,
+    groups: &[Entry],
+) -> Result<Option<List<Layer>>, OutOfMemory>
+    ensures { IfOk result (λ r. AddsLayers r (layers_for reply.now request.now groups.now)) }
+{
+    match request {
+        None => Ok(None),
+        Some(_) => layers_in_reply(alloc, reply, groups),
+    }
+}
+
+/// The trigger rules that an event adds to a session.
+pub fn added_layers(
+    alloc: Global,
+    event: &SmfEvent,
+    before: &Session,
+) -> Result<Option<List<Layer>>, OutOfMemory>
+    ensures { IfOk result (λ r. AddsLayers r (layers_added event.now before.now)) }
+{
+    match event {
+        SmfEvent::Answered { reply, .. } => {
+            layers_answered(alloc, reply, &before.request, before.groups.as_slice())
+        }
+        _ => Ok(None),
+    }
+}
+
 fn succeed(
     alloc: Global,
     stamp: Moment,
     reference: Option<u32>,
     answer: &Answer,
-    session: &mut Session,
+    before: &Session,
+    draft: &mut Draft,
 ) -> Result<(), OutOfMemory>
-    ensures { OnOk result (session.new ≡ succeeded stamp reference answer.now session.old) }
+    ensures { OnOk result (whole before.now draft.new ≡ succeeded stamp reference answer.now (whole before.now draft.old)) }
 {
-    let holdings = all_answered(alloc, session.holdings.as_slice())?;
-    let groups = session.groups.as_slice();
+    let holdings = all_answered(alloc, draft.holdings.as_slice())?;
+    let groups = draft.groups.as_slice();
     let entries = answered_entries(alloc, stamp, answer.units.as_slice(), groups)?;
-    let rules = with_rules(answer, groups, &session.rules)?;
-    session.request = None;
-    session.reference = reference.or(session.reference);
-    session.failover = answer.failover.unwrap_or(session.failover);
-    session.handling = answer.handling.unwrap_or(session.handling);
-    session.holdings = List::from_vec(holdings);
-    session.groups = List::from_vec(entries);
-    session.rules = rules;
+    let rules = with_rules(answer, groups, rules_of(before, draft))?;
+    draft.pending = Pending::Nothing;
+    draft.course.reference = reference.or(draft.course.reference);
+    draft.course.failover = answer.failover.unwrap_or(draft.course.failover);
+    draft.course.handling = answer.handling.unwrap_or(draft.course.handling);
+    draft.holdings = List::from_vec(holdings);
+    draft.groups = List::from_vec(entries);
+    draft.rules = Some(rules);
     Ok(())
 }
 
-fn release(alloc: Global, now: Moment, session: &mut Session) -> Result<(), OutOfMemory>
-    ensures { OnOk result (session.new ≡ released now session.old) }
+fn release(
+    alloc: Global,
+    now: Moment,
+    before: &Session,
+    draft: &mut Draft,
+) -> Result<(), OutOfMemory>
+    ensures { OnOk result (whole before.now draft.new ≡ released now (whole before.now draft.old)) }
 {
-    let holdings = all_answered(alloc, session.holdings.as_slice())?;
-    session.holdings = List::from_vec(holdings);
-    end(alloc, now, session)
+    let holdings = all_answered(alloc, draft.holdings.as_slice())?;
+    draft.holdings = List::from_vec(holdings);
+    end(alloc, now, before, draft)
 }
 
 fn reply_to(
@@ -196,17 +252,18 @@ fn reply_to(
     now: Moment,
     stamp: Moment,
     reply: &Reply,
-    session: &mut Session,
+    before: &Session,
+    draft: &mut Draft,
 ) -> Result<(), OutOfMemory>
-    ensures { OnOk result (session.new ≡ replied now stamp reply.now session.old) }
+    ensures { OnOk result (whole before.now draft.new ≡ replied now stamp reply.now (whole before.now draft.old)) }
 {
     match reply {
         Reply::Created { reference, answer } => {
-            succeed(alloc, stamp, Some(*reference), answer, session)
+            succeed(alloc, stamp, Some(*reference), answer, before, draft)
         }
-        Reply::Updated { answer } => succeed(alloc, stamp, None, answer, session),
-        Reply::Released => release(alloc, now, session),
-        Reply::Refused { .. } => end_for(alloc, Why::Refused, now, session),
+        Reply::Updated { answer } => succeed(alloc, stamp, None, answer, before, draft),
+        Reply::Released => release(alloc, now, before, draft),
+        Reply::Refused { .. } => end_for(alloc, Why::Refused, now, before, draft),
     }
 }
 
@@ -215,13 +272,14 @@ pub fn answer(
     alloc: Global,
     now: Moment,
     reply: &Reply,
-    session: &mut Session,
+    before: &Session,
+    draft: &mut Draft,
 ) -> Result<(), OutOfMemory>
-    ensures { OnOk result (session.new ≡ answered_by now reply.now session.old.request session.old) }
+    ensures { OnOk result (whole before.now draft.new ≡ answered_by now reply.now (whole before.now draft.old).request (whole before.now draft.old)) }
 {
-    let stamp = match &session.request {
+    let stamp = match request_of(before, draft) {
         None => return Ok(()),
         Some(request) => request.stamp,
     };
-    reply_to(alloc, now, stamp, reply, session)
+    reply_to(alloc, now, stamp, reply, before, draft)
 }

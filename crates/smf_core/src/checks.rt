@@ -2,7 +2,8 @@ ghost use Rattle.std.specs.Prelude.{◌≡◌, ◌==◌, length};
 ghost use Rattle.std.specs.List.{find};
 ghost use Rattle.std.specs.Option.{option_copied};
 ghost use Rattle.smf_core.specs.Settle.{entry_of};
-ghost use Rattle.smf_core.specs.Machine.{session_of, is_live, expected_in, expected_of, gate_in, gate_for, is_served, is_full_for, start_answer, count_answer, change_answer, detach_answer, reply_answer, attach_answer, answer_in};
+ghost use Rattle.smf_core.specs.Machine.{is_live, expected_in, expected_of, gate_in, gate_for, is_served, is_full_for, start_answer, count_answer, change_answer, detach_answer, reply_answer};
+ghost use Rattle.smf_core.specs.Lookup.{subject, answer_at, answer_without, answer_for};
 
 use crate::answers::is_answer_to;
 use crate::event::SmfEvent;
@@ -11,18 +12,6 @@ use crate::session::{Entry, Life, Session};
 use crate::settle::entry_in;
 use quotas::{Gate, State};
 use units::{Moment, Reply, Report};
-
-/// A session.
-pub fn session_in(sessions: &[Session], number: u32) -> Option<&Session>
-    ensures { option_copied result ≡ session_of number sessions.now }
-{
-    for session in sessions {
-        if session.number == number {
-            return Some(session);
-        }
-    }
-    None
-}
 
 fn is_live_session(session: &Session) -> bool
     ensures { result ≡ is_live session.now.life }
@@ -166,72 +155,66 @@ fn check_reply(number: u32, reply: &Reply, session: &Session) -> Result<Seen, Sm
     }
 }
 
-fn check_attach(found: Option<&Session>, groups: usize) -> Result<Seen, SmfRefusal>
-    ensures { result ≡ attach_answer (option_copied found.entry) groups }
+/// The session that an event is for; a tick is for all.
+pub fn subject(event: &SmfEvent) -> Option<u32>
+    ensures { result ≡ subject event.now }
 {
-    match found {
-        Some(_) => Err(SmfRefusal::SessionExists),
-        None => {
-            if groups > 16 {
+    match event {
+        SmfEvent::Attach { session, .. }
+        | SmfEvent::Start { session, .. }
+        | SmfEvent::Count { session, .. }
+        | SmfEvent::Change { session, .. }
+        | SmfEvent::Detach { session, .. }
+        | SmfEvent::Answered { session, .. } => Some(*session),
+        SmfEvent::Tick { .. } => None,
+    }
+}
+
+/// What the machine answers to an event, whose session is this one.
+pub fn check_found(event: &SmfEvent, session: &Session) -> Result<Seen, SmfRefusal>
+    ensures { result ≡ answer_at event.now session.now }
+{
+    match event {
+        SmfEvent::Attach { .. } => Err(SmfRefusal::SessionExists),
+        SmfEvent::Start { group, moment, .. } => check_start(*group, *moment, session),
+        SmfEvent::Count { report, .. } => check_count(report, session),
+        SmfEvent::Change { moment, .. } | SmfEvent::Tick { moment } => {
+            check_change(*moment, session)
+        }
+        SmfEvent::Detach { moment, .. } => check_detach(*moment, session),
+        SmfEvent::Answered { number, reply, .. } => check_reply(*number, reply, session),
+    }
+}
+
+/// And to one whose session is not there; a tick has none.
+pub fn check_missing(now: Moment, event: &SmfEvent) -> Result<Seen, SmfRefusal>
+    ensures { result ≡ answer_without now event.now }
+{
+    match event {
+        SmfEvent::Attach { groups, .. } => {
+            if groups.len() > 16 {
                 Err(SmfRefusal::TooManyGroups)
             } else {
                 Ok(Seen::New)
             }
         }
+        SmfEvent::Tick { moment } => {
+            if *moment < now {
+                Err(SmfRefusal::MomentBack { last: now })
+            } else {
+                Ok(Seen::New)
+            }
+        }
+        _ => Err(SmfRefusal::NoSession),
     }
 }
 
-/// What the machine answers to an event: the checks of each event, in order.
-pub fn check(now: Moment, sessions: &[Session], event: &SmfEvent) -> Result<Seen, SmfRefusal>
-    ensures { result ≡ answer_in now sessions.now event.now }
+/// What the machine answers to an event, whose session is this one: the checks of each event, in order.
+pub fn check(now: Moment, found: Option<&Session>, event: &SmfEvent) -> Result<Seen, SmfRefusal>
+    ensures { result ≡ answer_for now (option_copied found.entry) event.now }
 {
-    match event {
-        SmfEvent::Attach {
-            session,
-            groups,
-            ..
-        } => check_attach(session_in(sessions, *session), groups.len()),
-        SmfEvent::Start {
-            session,
-            group,
-            moment,
-        } => match session_in(sessions, *session) {
-            None => Err(SmfRefusal::NoSession),
-            Some(session) => check_start(*group, *moment, session),
-        },
-        SmfEvent::Count { session, report } => match session_in(sessions, *session) {
-            None => Err(SmfRefusal::NoSession),
-            Some(session) => check_count(report, session),
-        },
-        SmfEvent::Change {
-            session,
-            moment,
-            ..
-        } => match session_in(sessions, *session) {
-            None => Err(SmfRefusal::NoSession),
-            Some(session) => check_change(*moment, session),
-        },
-        SmfEvent::Tick { moment } => {
-            if *moment < now {
-                return Err(SmfRefusal::MomentBack { last: now });
-            }
-            Ok(Seen::New)
-        }
-        SmfEvent::Detach {
-            session,
-            moment,
-            ..
-        } => match session_in(sessions, *session) {
-            None => Err(SmfRefusal::NoSession),
-            Some(session) => check_detach(*moment, session),
-        },
-        SmfEvent::Answered {
-            session,
-            number,
-            reply,
-        } => match session_in(sessions, *session) {
-            None => Err(SmfRefusal::NoSession),
-            Some(session) => check_reply(*number, reply, session),
-        },
+    match found {
+        Some(session) => check_found(event, session),
+        None => check_missing(now, event),
     }
 }

@@ -1,9 +1,11 @@
 ghost use Rattle.std.specs.Prelude.{◌≡◌, ◌==◌, ◌&&◌, IfOk, OnOk, map, length};
 ghost use Rattle.std.specs.List.{list_any};
 ghost use Rattle.sessions.specs.Kept.{is_release};
+ghost use Rattle.smf_core.specs.Draft.{whole};
 ghost use Rattle.smf_core.specs.Settle.{is_waiting, is_frozen};
-ghost use Rattle.smf_core.specs.Freeze.{waiting_count, move_oldest, dropped, is_wanting, live_operation, ending_operation, operation_in, next_operation, names_of, used_as, is_frozen_of, used_of, ask_of, usage_of, says_something, usages, is_aborting, triggers_of, request_of, freeze_entry, with_request, freeze_by, freeze_due};
+ghost use Rattle.smf_core.specs.Freeze.{waiting_count, move_oldest, dropped, is_wanting, live_operation, ending_operation, operation_in, next_operation, names_of, used_as, is_frozen_of, used_of, ask_of, usage_of, says_something, usages, is_aborting, triggers_of, request_of as request_made, freeze_entry, with_request, freeze_by, freeze_due};
 
+use crate::draft::{Draft, Pending, request_of};
 use crate::names::name;
 use crate::rules::changes_for;
 use crate::session::{Entry, Holding, Life, Place, Session, Why};
@@ -45,12 +47,12 @@ fn moved_oldest(
 {
     let mut left = most;
     let mut moved = Vec::with_capacity(alloc, holdings.len())?;
-    for holding in holdings {
-        if is_waiting_place(holding.place) && left > 0 {
-            moved.push(Holding { place, ..*holding })?;
+    for each in holdings {
+        if is_waiting_place(each.place) && left > 0 {
+            moved.push(Holding { place, ..*each })?;
             left -= 1;
         } else {
-            moved.push(*holding)?;
+            moved.push(*each)?;
         }
     }
     Ok(moved)
@@ -60,14 +62,15 @@ fn moved_oldest(
 pub fn drop_oldest(
     alloc: Global,
     setup: &SmfSetup,
-    session: &mut Session,
+    before: &Session,
+    draft: &mut Draft,
 ) -> Result<(), OutOfMemory>
-    ensures { OnOk result (session.new ≡ dropped setup.now session.old) }
+    ensures { OnOk result (whole before.now draft.new ≡ dropped setup.now (whole before.now draft.old)) }
 {
-    let holdings = session.holdings.as_slice();
+    let holdings = draft.holdings.as_slice();
     let over = count_waiting(holdings).saturating_sub(setup.held_max as usize);
     let kept = moved_oldest(alloc, over, Place::GivenUp(Why::HeldFull), holdings)?;
-    session.holdings = List::from_vec(kept);
+    draft.holdings = List::from_vec(kept);
     Ok(())
 }
 
@@ -83,39 +86,44 @@ fn any_wanting(groups: &[Entry]) -> bool
     groups.iter().any(|e| is_wanting_entry(e))
 }
 
-fn live_next(setup: &SmfSetup, session: &Session, reference: Option<u32>) -> Option<Operation>
-    ensures { result ≡ live_operation setup.now session.now reference }
+fn live_next(
+    setup: &SmfSetup,
+    before: &Session,
+    draft: &Draft,
+    reference: Option<u32>,
+) -> Option<Operation>
+    ensures { result ≡ live_operation setup.now (whole before.now draft.now) reference }
 {
     let reference = reference?;
-    let waiting = count_waiting(session.holdings.as_slice());
-    let wanting = any_wanting(session.groups.as_slice());
-    if session.at_once || wanting || waiting >= changes_for(setup, session) as usize {
+    let waiting = count_waiting(draft.holdings.as_slice());
+    let wanting = any_wanting(draft.groups.as_slice());
+    if draft.course.at_once || wanting || waiting >= changes_for(setup, before, draft) as usize {
         Some(Operation::Update(reference))
     } else {
         None
     }
 }
 
-fn ending_next(session: &Session, reference: Option<u32>) -> Option<Operation>
-    ensures { result ≡ ending_operation session.now reference }
+fn ending_next(before: &Session, draft: &Draft, reference: Option<u32>) -> Option<Operation>
+    ensures { result ≡ ending_operation (whole before.now draft.now) reference }
 {
     let reference = reference?;
-    if count_waiting(session.holdings.as_slice()) > 500 {
+    if count_waiting(draft.holdings.as_slice()) > 500 {
         Some(Operation::Update(reference))
     } else {
         Some(Operation::Release(reference))
     }
 }
 
-fn next_of(setup: &SmfSetup, session: &Session) -> Option<Operation>
-    ensures { result ≡ next_operation setup.now session.now }
+fn next_of(setup: &SmfSetup, before: &Session, draft: &Draft) -> Option<Operation>
+    ensures { result ≡ next_operation setup.now (whole before.now draft.now) }
 {
-    if session.request.is_some() {
+    if request_of(before, draft).is_some() {
         return None;
     }
-    match session.life {
-        Life::Live => live_next(setup, session, session.reference),
-        Life::Ending | Life::Aborting => ending_next(session, session.reference),
+    match draft.course.life {
+        Life::Live => live_next(setup, before, draft, draft.course.reference),
+        Life::Ending | Life::Aborting => ending_next(before, draft, draft.course.reference),
         Life::Ended => None,
     }
 }
@@ -217,23 +225,24 @@ fn next_request(
     setup: &SmfSetup,
     now: Moment,
     operation: Operation,
-    session: &Session,
+    before: &Session,
+    draft: &Draft,
 ) -> Result<Request, OutOfMemory>
-    ensures { IfOk result (λ r. r ≡ request_of setup.now now session.now operation) }
+    ensures { IfOk result (λ r. r ≡ request_made setup.now now (whole before.now draft.now) operation) }
 {
-    let Some(number) = session.count.checked_add(1) else {
+    let Some(number) = draft.course.count.checked_add(1) else {
         return Err(OutOfMemory);
     };
-    let holdings = moved_oldest(alloc, 500, Place::Frozen, session.holdings.as_slice())?;
-    let usage = usages_in(alloc, &holdings, session.groups.as_slice())?;
+    let holdings = moved_oldest(alloc, 500, Place::Frozen, draft.holdings.as_slice())?;
+    let usage = usages_in(alloc, &holdings, draft.groups.as_slice())?;
     let consumer = copy(&setup.name)?;
-    let subscriber = copy(&session.subscriber)?;
-    let triggers = triggers_for(alloc, operation, session.life)?;
+    let subscriber = copy(&before.subscriber)?;
+    let triggers = triggers_for(alloc, operation, draft.course.life)?;
     Ok(Request {
         operation,
         consumer,
         subscriber: Some(subscriber),
-        charging_id: Some(session.number),
+        charging_id: Some(before.number),
         number,
         stamp: now,
         again: false,
@@ -264,18 +273,19 @@ pub fn freeze_request(
     setup: &SmfSetup,
     now: Moment,
     operation: Operation,
-    session: &mut Session,
+    before: &Session,
+    draft: &mut Draft,
 ) -> Result<(), OutOfMemory>
-    ensures { OnOk result (session.new ≡ with_request setup.now now operation session.old) }
+    ensures { OnOk result (whole before.now draft.new ≡ with_request setup.now now operation (whole before.now draft.old)) }
 {
-    let request = next_request(alloc, setup, now, operation, session)?;
-    let holdings = moved_oldest(alloc, 500, Place::Frozen, session.holdings.as_slice())?;
-    let groups = frozen_entries(alloc, session.groups.as_slice())?;
-    session.count = request.number;
-    session.at_once = false;
-    session.groups = List::from_vec(groups);
-    session.holdings = List::from_vec(holdings);
-    session.request = Some(request);
+    let request = next_request(alloc, setup, now, operation, before, draft)?;
+    let holdings = moved_oldest(alloc, 500, Place::Frozen, draft.holdings.as_slice())?;
+    let groups = frozen_entries(alloc, draft.groups.as_slice())?;
+    draft.course.count = request.number;
+    draft.course.at_once = false;
+    draft.groups = List::from_vec(groups);
+    draft.holdings = List::from_vec(holdings);
+    draft.pending = Pending::New(request);
     Ok(())
 }
 
@@ -284,12 +294,13 @@ pub fn freeze(
     alloc: Global,
     setup: &SmfSetup,
     now: Moment,
-    session: &mut Session,
+    before: &Session,
+    draft: &mut Draft,
 ) -> Result<(), OutOfMemory>
-    ensures { OnOk result (session.new ≡ freeze_due setup.now now session.old) }
+    ensures { OnOk result (whole before.now draft.new ≡ freeze_due setup.now now (whole before.now draft.old)) }
 {
-    match next_of(setup, session) {
+    match next_of(setup, before, draft) {
         None => Ok(()),
-        Some(operation) => freeze_request(alloc, setup, now, operation, session),
+        Some(operation) => freeze_request(alloc, setup, now, operation, before, draft),
     }
 }

@@ -2,11 +2,16 @@
 #![tactic(auto)]
 
 mod answers;
+mod change;
 mod checks;
+mod draft;
 mod event;
 mod freeze;
+mod index;
+mod kept;
 mod laws;
 mod names;
+mod next;
 mod plain;
 mod plan;
 mod refusal;
@@ -26,11 +31,15 @@ pub use laws::{
     settles_once,
 };
 pub use plain::{plain_after, plain_step};
-pub use plan::{Next, SmfPlan};
+pub use plan::SmfPlan;
 pub use refusal::{Seen, SmfRefusal};
 pub use session::{Entry, Holding, Layer, Life, Machine, Place, Session, Why};
 pub use setup::SmfSetup;
 pub use smf::Smf;
 
+#[cfg(test)]
+mod test_draws;
+#[cfg(test)]
+mod test_rows;
 #[cfg(test)]
 mod tests;

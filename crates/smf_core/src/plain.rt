@@ -1,14 +1,92 @@
 ghost use Rattle.std.specs.Prelude.{◌≡◌, ◌++◌, IfOk, map};
-ghost use Rattle.smf_core.specs.Machine.{next_session, now_after, added_by, stepped, step, empty, machine_after};
+ghost use Rattle.std.specs.Option.{option_copied};
+ghost use Rattle.smf_core.specs.Machine.{finished, effect, session_of, answer_in, next_session, now_after, added_by, stepped, step, empty, machine_after};
 
-use crate::checks::check;
+use crate::checks::{check, subject};
+use crate::draft::into_session;
 use crate::event::SmfEvent;
-use crate::refusal::Seen;
+use crate::refusal::{Seen, SmfRefusal};
 use crate::session::{Machine, Session};
 use crate::setup::{SmfSetup, copy_setup};
-use crate::step::{added_session, moment_after, next_or_same};
+use crate::step::{added_session, draft_after, is_touched, moment_after};
 use std::alloc::Global;
-use units::{List, Moment, OutOfMemory};
+use units::{List, Moment, OutOfMemory, copy};
+
+fn session_in(sessions: &[Session], number: u32) -> Option<&Session>
+    ensures { option_copied result ≡ session_of number sessions.now }
+{
+    for session in sessions {
+        if session.number == number {
+            return Some(session);
+        }
+    }
+    None
+}
+
+fn check_in(now: Moment, sessions: &[Session], event: &SmfEvent) -> Result<Seen, SmfRefusal>
+    ensures { result ≡ answer_in now sessions.now event.now }
+{
+    match subject(event) {
+        None => check(now, None, event),
+        Some(number) => check(now, session_in(sessions, number), event),
+    }
+}
+
+fn copy_session(alloc: Global, session: &Session) -> Result<Session, OutOfMemory>
+    ensures { IfOk result (λ r. r ≡ session.now) }
+{
+    let groups = Vec::from_slice(alloc, session.groups.as_slice())?;
+    let holdings = Vec::from_slice(alloc, session.holdings.as_slice())?;
+    let rules = copy(&session.rules)?;
+    let request = copy(&session.request)?;
+    let subscriber = copy(&session.subscriber)?;
+    Ok(Session {
+        number: session.number,
+        subscriber,
+        reference: session.reference,
+        life: session.life,
+        last: session.last,
+        count: session.count,
+        reports: session.reports,
+        at_once: session.at_once,
+        failover: session.failover,
+        handling: session.handling,
+        groups: List::from_vec(groups),
+        holdings: List::from_vec(holdings),
+        rules,
+        request,
+    })
+}
+
+fn next_touched(
+    alloc: Global,
+    setup: &SmfSetup,
+    now: Moment,
+    event: &SmfEvent,
+    session: &Session,
+) -> Result<Session, OutOfMemory>
+    ensures { IfOk result (λ r. r ≡ finished setup.now now (effect now event.now session.now)) }
+{
+    let same = copy_session(alloc, session)?;
+    let draft = draft_after(alloc, setup, 0, now, event, session)?;
+    Ok(into_session(same, draft))
+}
+
+fn next_or_same(
+    alloc: Global,
+    setup: &SmfSetup,
+    now: Moment,
+    event: &SmfEvent,
+    session: &Session,
+) -> Result<Session, OutOfMemory>
+    ensures { IfOk result (λ r. r ≡ next_session setup.now now event.now session.now) }
+{
+    if is_touched(event, session) {
+        next_touched(alloc, setup, now, event, session)
+    } else {
+        copy_session(alloc, session)
+    }
+}
 
 fn next_sessions(
     alloc: Global,
@@ -51,7 +129,7 @@ fn step_new(alloc: Global, machine: Machine, event: &SmfEvent) -> Result<Machine
 pub fn plain_step(alloc: Global, machine: Machine, event: &SmfEvent) -> Result<Machine, OutOfMemory>
     ensures { IfOk result (λ r. r ≡ step machine event.now) }
 {
-    match check(machine.moment, machine.sessions.as_slice(), event) {
+    match check_in(machine.moment, machine.sessions.as_slice(), event) {
         Ok(Seen::New) => step_new(alloc, machine, event),
         Ok(Seen::Known) => Ok(machine),
         Err(_) => Ok(machine),

@@ -1,19 +1,51 @@
+use crate::draft::{Course, Pending};
+use crate::kept::Kept;
 use crate::refusal::Seen;
-use crate::session::Session;
-use units::{List, Moment};
+use crate::session::{Entry, Holding, Layer};
+use units::{Container, List, Moment};
 
-/// A session that takes the place of another.
+/// The trigger rules that an answer adds to a session, and all that its rules say then.
 #[derive(Debug, Drop)]
-pub struct Next {
-    pub at: usize,
-    pub session: Session,
+pub struct RuleChange {
+    pub added: List<Layer>,
+    pub said: List<Layer>,
+}
+
+/// What an event makes of one session: what it changes, and what is kept of that for speed.
+#[derive(Debug, Drop)]
+pub struct Change {
+    pub course: Course,
+    pub groups: List<Entry>,
+    /// What was held before, as it is now, and the container that was opened.
+    pub moved: List<Holding>,
+    /// Their containers.
+    pub containers: List<Container>,
+    /// What of them is held.
+    pub live: List<Holding>,
+    /// The places of that.
+    pub places: List<usize>,
+    /// Its containers.
+    pub held: List<Container>,
+    pub rules: Option<RuleChange>,
+    pub pending: Pending,
+}
+
+/// The sessions that an event changes.
+#[derive(Debug, Drop)]
+pub enum Next {
+    /// None.
+    Nothing,
+    /// The one at a place.
+    One { at: usize, change: Change },
+    /// All.
+    All(List<Change>),
 }
 
 /// What an event makes of the machine, with all the memory that it takes; `Smf::plan` makes it, and `Smf::commit` takes it.
-#[derive(Debug, Drop)]
+#[derive(Drop)]
 pub struct SmfPlan {
-    pub seen: Seen,
-    pub moment: Moment,
-    pub next: List<Next>,
-    pub added: Option<Session>,
+    pub(crate) seen: Seen,
+    pub(crate) moment: Moment,
+    pub(crate) next: Next,
+    pub(crate) added: Option<Kept>,
 }

@@ -1,7 +1,9 @@
 ghost use Rattle.std.specs.Prelude.{◌≡◌, nat_eq};
 ghost use Rattle.std.specs.List.{find};
+ghost use Rattle.smf_core.specs.Draft.{whole};
 ghost use Rattle.smf_core.specs.Rules.{rule_in, rule_for, or_earlier, category_in, volume_in, seconds_in, changes_in, is_immediate, is_immediate_for, limits_of, within, changes_of};
 
+use crate::draft::{Draft, rules_of};
 use crate::names::{immediate_by_default, is_same};
 use crate::session::{Layer, Session};
 use crate::setup::SmfSetup;
@@ -80,24 +82,28 @@ fn changes(layers: &[Layer]) -> Option<u32>
 }
 
 /// Whether a trigger is of immediate category for the session (TS 32.291, triggerCategory).
-pub fn immediate(session: &Session, trigger: TriggerType) -> bool
-    ensures { result ≡ is_immediate session.now trigger }
+pub fn immediate(before: &Session, draft: &Draft, trigger: TriggerType) -> bool
+    ensures { result ≡ is_immediate (whole before.now draft.now) trigger }
 {
-    category(None, trigger, session.rules.as_slice()).unwrap_or(immediate_by_default(trigger))
+    category(None, trigger, rules_of(before, draft).as_slice()).unwrap_or(immediate_by_default(
+        trigger,
+    ))
 }
 
 /// Whether it is for a rating group.
-pub fn immediate_for(session: &Session, group: u32, trigger: TriggerType) -> bool
-    ensures { result ≡ is_immediate_for session.now group trigger }
+pub fn immediate_for(before: &Session, draft: &Draft, group: u32, trigger: TriggerType) -> bool
+    ensures { result ≡ is_immediate_for (whole before.now draft.now) group trigger }
 {
-    category(Some(group), trigger, session.rules.as_slice()).unwrap_or(immediate(session, trigger))
+    category(Some(group), trigger, rules_of(before, draft).as_slice()).unwrap_or(immediate(
+        before, draft, trigger,
+    ))
 }
 
 /// The limits of a rating group's containers.
-pub fn limits(setup: &SmfSetup, session: &Session, group: u32) -> Limits
-    ensures { result ≡ limits_of setup.now session.now group }
+pub fn limits(setup: &SmfSetup, before: &Session, draft: &Draft, group: u32) -> Limits
+    ensures { result ≡ limits_of setup.now (whole before.now draft.now) group }
 {
-    let layers = session.rules.as_slice();
+    let layers = rules_of(before, draft).as_slice();
     Limits {
         volume: volume(Some(group), layers).unwrap_or(volume(None, layers).unwrap_or(
             setup.volume_limit,
@@ -115,10 +121,10 @@ fn between(most: u32, number: u32) -> u32
 }
 
 /// How many waiting containers make an Update (maxNumberOfccc of TS 32.291).
-pub fn changes_for(setup: &SmfSetup, session: &Session) -> u32
-    ensures { result ≡ changes_of setup.now session.now }
+pub fn changes_for(setup: &SmfSetup, before: &Session, draft: &Draft) -> u32
+    ensures { result ≡ changes_of setup.now (whole before.now draft.now) }
 {
-    match changes(session.rules.as_slice()) {
+    match changes(rules_of(before, draft).as_slice()) {
         Some(number) => between(setup.held_max, number),
         None => setup.changes_max,
     }

@@ -1,54 +1,60 @@
-ghost use Rattle.std.specs.Prelude.{◌≡◌, ◌<◌, ◌++◌, [], IfOk, OnOk, IfErr, map, length};
+ghost use Rattle.std.specs.Prelude.{◌≡◌, ◌<◌, ◌-◌, ◌++◌, [], IfOk, IfErr, OnOk, min, map, option_map, slice_get, vec_len, vec_capacity};
 ghost use Rattle.std.specs.Option.{option_copied};
 ghost use Rattle.smf_core.specs.declared.refusal.Seen.TheVariants.{New, Known as AlreadyKnown};
-ghost use Rattle.smf_core.specs.Machine.{answer_of, empty, now_after, next_session, stepped, added_by, session_of};
-ghost use Rattle.smf_core.specs.Plan.{put_all, listed, applied, IsPlanOf, IsRefused, request_in, gate_at, expected_at, holdings_in};
+ghost use Rattle.smf_core.specs.Machine.{answer_of, added_by, empty, session_of, stepped};
+ghost use Rattle.smf_core.specs.Lookup.{session_for};
+ghost use Rattle.smf_core.specs.Reads.{request_in, gate_at, expected_at, containers_in, held_in};
+ghost use Rattle.smf_core.specs.Plan.{added_in, applied, AddedIsReady, IsPlanOf, IsReady, IsRefused};
+ghost use Rattle.smf_core.specs.Caches.{numbers_of, sessions_of};
 
-use crate::checks::{check, expected, gate, session_in};
+use crate::checks::{check_missing, subject};
 use crate::event::SmfEvent;
+use crate::index::Index;
+use crate::kept::Kept;
+use crate::next::{next_for, take_next};
 use crate::plan::{Next, SmfPlan};
 use crate::refusal::{Seen, SmfRefusal};
-use crate::session::{Holding, Session};
 use crate::setup::{SmfSetup, copy_setup};
-use crate::step::{added_session, is_touched, moment_after, next_of_session};
+use crate::step::{added_session, moment_after};
 use quotas::Gate;
 use std::alloc::Global;
 use std::marker::Model;
-use units::{List, Moment, OutOfMemory, Request};
+use units::{Container, Moment, OutOfMemory, Request};
 
-// The sessions that the event touches, as they are after it.
-fn next_sessions(
+fn kept_at(sessions: &[Kept], at: usize) -> Option<&Kept>
+    ensures { option_copied result ≡ slice_get sessions.now at }
+{
+    sessions.get(at)
+}
+
+// What is kept of the session that an event adds.
+fn added_kept(
     alloc: Global,
     setup: &SmfSetup,
     now: Moment,
     event: &SmfEvent,
-    sessions: &[Session],
-) -> Result<Vec<Next>, OutOfMemory>
-    ensures { IfOk result (λ v. put_all v.items sessions.now ≡ map (next_session setup.now now event.now) sessions.now) }
+) -> Result<Option<Kept>, OutOfMemory>
+    ensures { IfOk result (λ r. added_in r ≡ added_by setup.now now event.now) }
 {
-    let mut next = Vec::new(alloc);
-    for (at, session) in sessions.iter().enumerate() {
-        if !is_touched(event, session) {
-            continue;
+    match added_session(alloc, setup, now, event)? {
+        None => Ok(None),
+        Some(session) => {
+            let kept = Kept::of(alloc, session)?;
+            Ok(Some(kept))
         }
-        let changed = next_of_session(alloc, setup, now, event, session)?;
-        next.push(Next {
-            at,
-            session: changed,
-        })?;
     }
-    Ok(next)
 }
 
-// Each session takes its place.
-fn put(sessions: &mut [Session], next: List<Next>)
-    ensures { sessions.new ≡ put_all next sessions.old }
+// The session that is added takes its place.
+fn add(index: &mut Index, sessions: &mut Vec<Kept>, added: Option<Kept>)
+    requires numbers { index.old.numbers ≡ numbers_of (sessions_of sessions.old.items) }
+    requires ready { AddedIsReady added (sessions_of sessions.old.items) (min (vec_capacity sessions.old - vec_len sessions.old) index.old.room) }
+    ensures numbers { index.new.numbers ≡ numbers_of (sessions_of sessions.new.items) }
+    ensures sessions { sessions_of sessions.new.items ≡ sessions_of sessions.old.items ++ added_in added }
 {
-    let mut next = next.into_vec();
-    while let Some(Next { at, session }) = next.pop() {
-        if at < sessions.len() {
-            sessions[at] = session;
-        }
+    if let Some(kept) = added {
+        index.add(kept.number());
+        sessions.push_reserved(kept);
     }
 }
 
@@ -57,16 +63,20 @@ fn put(sessions: &mut [Session], next: List<Next>)
 pub struct Smf {
     setup: SmfSetup,
     moment: Moment,
-    sessions: Vec<Session>,
+    index: Index,
+    sessions: Vec<Kept>,
 }
 
 impl Model for Smf {
-    ghost use Rattle.std.specs.Prelude.{◌-◌, vec_len, vec_capacity};
+    ghost use Rattle.std.specs.Prelude.{◌≡◌, ◌-◌, min, vec_len, vec_capacity};
+    ghost use Rattle.smf_core.specs.Caches.{numbers_of, sessions_of};
     ghost use Rattle.smf_core.specs.Plan.{Shown};
 
     ghost Value = { Shown };
 
-    ghost view = { λ s. record { machine = record { setup = s.setup; moment = s.moment; sessions = s.sessions.items }; room = vec_capacity s.sessions - vec_len s.sessions } };
+    ghost view = { λ s. record { machine = record { setup = s.setup; moment = s.moment; sessions = sessions_of s.sessions.items }; kept = s.sessions.items; room = min (vec_capacity s.sessions - vec_len s.sessions) s.index.room } };
+
+    ghost invariant = { λ s. s.index.numbers ≡ numbers_of (sessions_of s.sessions.items) };
 }
 
 impl Smf {
@@ -78,41 +88,70 @@ impl Smf {
         Ok(Smf {
             setup,
             moment: Moment::first(),
+            index: Index::new(alloc),
             sessions: Vec::new(alloc),
         })
+    }
+
+    fn found(&self, number: Option<u32>) -> Option<&Kept>
+        ensures { option_map (λ k. k.session) (option_copied result) ≡ session_for number self.now.machine.sessions }
+    {
+        match self.index.place(number) {
+            None => None,
+            Some(at) => kept_at(&self.sessions, at),
+        }
     }
 
     fn check(&self, event: &SmfEvent) -> Result<Seen, SmfRefusal>
         ensures { result ≡ answer_of self.now.machine event.now }
     {
-        check(self.moment, &self.sessions, event)
+        match self.found(subject(event)) {
+            None => check_missing(self.moment, event),
+            Some(kept) => kept.check(event),
+        }
+    }
+
+    // Makes room for one more session.
+    fn make_room(&mut self) -> Result<(), OutOfMemory>
+        ensures machine { self.new.machine ≡ self.old.machine }
+        ensures room { OnOk result (0 < self.new.room) }
+    {
+        self.sessions.reserve(1)?;
+        self.index.make_room()?;
+        Ok(())
     }
 
     // The plan of a new event.
-    fn plan_new(&self, alloc: Global, event: &SmfEvent) -> Result<SmfPlan, OutOfMemory>
-        ensures made { IfOk result (λ p. applied p self.now.machine ≡ stepped self.now.machine event.now) }
+    fn plan_new(&mut self, alloc: Global, event: &SmfEvent) -> Result<SmfPlan, OutOfMemory>
+        requires new { answer_of self.old.machine event.now ≡ Ok New }
+        requires room { 0 < self.old.room }
+        ensures made { IfOk result (λ p. applied p self.old.machine ≡ stepped self.old.machine event.now) }
         ensures seen { IfOk result (λ p. p.seen ≡ New) }
+        ensures ready { IfOk result (λ p. IsReady p self.new) }
+        ensures same { self.new.machine ≡ self.old.machine }
     {
         let now = moment_after(self.moment, event);
-        let next = next_sessions(alloc, &self.setup, now, event, &self.sessions)?;
-        let added = added_session(alloc, &self.setup, now, event)?;
+        let added = added_kept(alloc, &self.setup, now, event)?;
+        let place = self.index.place(subject(event));
+        let next = next_for(alloc, &self.setup, now, event, place, &mut self.sessions)?;
         Ok(SmfPlan {
             seen: Seen::New,
             moment: now,
-            next: List::from_vec(next),
+            next,
             added,
         })
     }
 
     // The plan of an event that changes nothing.
-    fn plan_known(&self, alloc: Global) -> SmfPlan
+    fn plan_known(&self) -> SmfPlan
         ensures made { applied result self.now.machine ≡ self.now.machine }
         ensures seen { result.seen ≡ AlreadyKnown }
+        ensures ready { IsReady result self.now }
     {
         SmfPlan {
             seen: Seen::Known,
             moment: self.moment,
-            next: List::new(alloc),
+            next: Next::Nothing,
             added: None,
         }
     }
@@ -124,18 +163,15 @@ impl Smf {
         ensures made { IfOk result (λ p. IsPlanOf p self.old.machine event.now) }
         ensures refused { IfErr result (λ e. IsRefused e self.old.machine event.now) }
         ensures same { self.new.machine ≡ self.old.machine }
-        ensures room { OnOk result (0 < self.new.room) }
+        ensures ready { IfOk result (λ p. IsReady p self.new) }
     {
-        let seen = self.check(event)?;
-        self.sessions
-            .reserve(1)
-            .map_err(|_| SmfRefusal::OutOfMemory)?;
-        match seen {
-            Seen::Known => Ok(self.plan_known(alloc)),
-            Seen::New => match self.plan_new(alloc, event) {
-                Ok(plan) => Ok(plan),
-                Err(_) => Err(SmfRefusal::OutOfMemory),
-            },
+        match self.check(event)? {
+            Seen::Known => Ok(self.plan_known()),
+            Seen::New => {
+                self.make_room()?;
+                let plan = self.plan_new(alloc, event)?;
+                Ok(plan)
+            }
         }
     }
 
@@ -146,9 +182,10 @@ impl Smf {
         plan.seen
     }
 
-    /// Takes the step that was planned last; it takes no memory.
+    /// Takes the step that was planned; it takes no memory and can't fail. The plan is the last one that `plan` made on this machine,
+    /// with nothing committed since.
     pub fn commit(&mut self, plan: SmfPlan) -> Seen
-        requires room { 0 < self.old.room }
+        requires { IsReady plan self.old }
         ensures step { self.new.machine ≡ applied plan self.old.machine }
         ensures seen { result ≡ plan.seen }
     {
@@ -159,20 +196,25 @@ impl Smf {
             added,
         } = plan;
         self.moment = moment;
-        put(&mut self.sessions, next);
-        if let Some(session) = added {
-            self.sessions.push_reserved(session);
-        }
+        take_next(&mut self.sessions, next);
+        add(&mut self.index, &mut self.sessions, added);
         seen
+    }
+
+    /// The numbers of the sessions, in the order of their Attach.
+    pub fn sessions(&self) -> &[u32]
+        ensures { result.now ≡ map (λ s. s.number) self.now.machine.sessions }
+    {
+        self.index.numbers()
     }
 
     /// The unanswered request of a session, `None` exactly where there is none.
     pub fn request(&self, session: u32) -> Option<&Request>
         ensures { option_copied result ≡ request_in (session_of session self.now.machine.sessions) }
     {
-        match session_in(&self.sessions, session) {
+        match self.found(Some(session)) {
             None => None,
-            Some(session) => session.request.as_ref(),
+            Some(kept) => kept.request(),
         }
     }
 
@@ -180,9 +222,9 @@ impl Smf {
     pub fn gate(&self, session: u32, group: u32) -> Gate
         ensures { result ≡ gate_at group (session_of session self.now.machine.sessions) }
     {
-        match session_in(&self.sessions, session) {
+        match self.found(Some(session)) {
             None => Gate::Waiting,
-            Some(session) => gate(session, group),
+            Some(kept) => kept.gate(group),
         }
     }
 
@@ -190,19 +232,29 @@ impl Smf {
     pub fn expected(&self, session: u32, group: u32) -> u32
         ensures { result ≡ expected_at group (session_of session self.now.machine.sessions) }
     {
-        match session_in(&self.sessions, session) {
+        match self.found(Some(session)) {
             None => 1,
-            Some(session) => expected(session, group),
+            Some(kept) => kept.expected(group),
         }
     }
 
-    /// The containers of a session in order of their numbers, each with its place; empty for an unknown session.
-    pub fn holdings(&self, session: u32) -> &[Holding]
-        ensures { result.now ≡ holdings_in (session_of session self.now.machine.sessions) }
+    /// The containers of a session, in order of their numbers; empty for an unknown session.
+    pub fn containers(&self, session: u32) -> &[Container]
+        ensures { result.now ≡ containers_in (session_of session self.now.machine.sessions) }
     {
-        match session_in(&self.sessions, session) {
+        match self.found(Some(session)) {
             None => &[],
-            Some(session) => session.holdings.as_slice(),
+            Some(kept) => kept.containers(),
+        }
+    }
+
+    /// Those that are open, or closed and neither answered by a final success nor given up; empty for an unknown session.
+    pub fn held(&self, session: u32) -> &[Container]
+        ensures { result.now ≡ held_in (session_of session self.now.machine.sessions) }
+    {
+        match self.found(Some(session)) {
+            None => &[],
+            Some(kept) => kept.held(),
         }
     }
 }

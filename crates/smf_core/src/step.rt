@@ -1,8 +1,10 @@
 ghost use Rattle.std.specs.Prelude.{◌≡◌, ◌==◌, ◌++◌, IfOk, OnOk, map, List};
-ghost use Rattle.smf_core.specs.Machine.{now_after, touches, effect, finished, next_session, entries_of, fresh, added_by};
-ghost use Rattle.smf_core.specs.Plan.{listed};
+ghost use Rattle.smf_core.specs.Draft.{whole, effect_past, listed};
+ghost use Rattle.smf_core.specs.Freeze.{with_request};
+ghost use Rattle.smf_core.specs.Machine.{now_after, touches, finished, entries_of, fresh, added_by};
 
 use crate::answers::answer;
+use crate::draft::{Draft, draft_of, into_session};
 use crate::event::SmfEvent;
 use crate::freeze::{drop_oldest, freeze, freeze_request};
 use crate::session::{Entry, Life, Session};
@@ -59,27 +61,29 @@ pub fn is_touched(event: &SmfEvent, session: &Session) -> bool
 
 fn take_effect(
     alloc: Global,
+    past: usize,
     now: Moment,
     event: &SmfEvent,
-    session: &mut Session,
+    before: &Session,
+    draft: &mut Draft,
 ) -> Result<(), OutOfMemory>
-    ensures { OnOk result (session.new ≡ effect now event.now session.old) }
+    ensures { OnOk result (whole before.now draft.new ≡ effect_past past now event.now (whole before.now draft.old)) }
 {
     match event {
         SmfEvent::Attach { .. } | SmfEvent::Tick { .. } => Ok(()),
-        SmfEvent::Start { group, moment, .. } => start(alloc, *group, *moment, session),
-        SmfEvent::Count { report, .. } => count(alloc, report, session),
+        SmfEvent::Start { group, moment, .. } => start(alloc, *group, *moment, before, draft),
+        SmfEvent::Count { report, .. } => count(alloc, past, report, before, draft),
         SmfEvent::Change {
             trigger,
             moment,
             ..
-        } => change(alloc, *trigger, *moment, session),
+        } => change(alloc, *trigger, *moment, before, draft),
         SmfEvent::Detach {
             abnormal,
             moment,
             ..
-        } => detach(alloc, *abnormal, *moment, session),
-        SmfEvent::Answered { reply, .. } => answer(alloc, now, reply, session),
+        } => detach(alloc, *abnormal, *moment, before, draft),
+        SmfEvent::Answered { reply, .. } => answer(alloc, now, reply, before, draft),
     }
 }
 
@@ -87,72 +91,31 @@ fn finish(
     alloc: Global,
     setup: &SmfSetup,
     now: Moment,
-    session: &mut Session,
+    before: &Session,
+    draft: &mut Draft,
 ) -> Result<(), OutOfMemory>
-    ensures { OnOk result (session.new ≡ finished setup.now now session.old) }
+    ensures { OnOk result (whole before.now draft.new ≡ finished setup.now now (whole before.now draft.old)) }
 {
-    settle(alloc, setup, now, session)?;
-    freeze(alloc, setup, now, session)?;
-    drop_oldest(alloc, setup, session)
+    settle(alloc, setup, now, before, draft)?;
+    freeze(alloc, setup, now, before, draft)?;
+    drop_oldest(alloc, setup, before, draft)
 }
 
-fn copy_session(alloc: Global, session: &Session) -> Result<Session, OutOfMemory>
-    ensures { IfOk result (λ r. r ≡ session.now) }
-{
-    let groups = Vec::from_slice(alloc, session.groups.as_slice())?;
-    let holdings = Vec::from_slice(alloc, session.holdings.as_slice())?;
-    let rules = copy(&session.rules)?;
-    let request = copy(&session.request)?;
-    let subscriber = copy(&session.subscriber)?;
-    Ok(Session {
-        number: session.number,
-        subscriber,
-        reference: session.reference,
-        life: session.life,
-        last: session.last,
-        count: session.count,
-        reports: session.reports,
-        at_once: session.at_once,
-        failover: session.failover,
-        handling: session.handling,
-        groups: List::from_vec(groups),
-        holdings: List::from_vec(holdings),
-        rules,
-        request,
-    })
-}
-
-/// What an event makes of a session that it touches.
-pub fn next_of_session(
+/// What an event makes of a session that it touches, of which so many containers are left out.
+pub fn draft_after(
     alloc: Global,
     setup: &SmfSetup,
+    past: usize,
     now: Moment,
     event: &SmfEvent,
-    session: &Session,
-) -> Result<Session, OutOfMemory>
-    ensures { IfOk result (λ r. r ≡ finished setup.now now (effect now event.now session.now)) }
+    before: &Session,
+) -> Result<Draft, OutOfMemory>
+    ensures { IfOk result (λ d. whole before.now d ≡ finished setup.now now (effect_past past now event.now before.now)) }
 {
-    let mut next = copy_session(alloc, session)?;
-    take_effect(alloc, now, event, &mut next)?;
-    finish(alloc, setup, now, &mut next)?;
-    Ok(next)
-}
-
-/// What an event makes of a session.
-pub fn next_or_same(
-    alloc: Global,
-    setup: &SmfSetup,
-    now: Moment,
-    event: &SmfEvent,
-    session: &Session,
-) -> Result<Session, OutOfMemory>
-    ensures { IfOk result (λ r. r ≡ next_session setup.now now event.now session.now) }
-{
-    if is_touched(event, session) {
-        next_of_session(alloc, setup, now, event, session)
-    } else {
-        copy_session(alloc, session)
-    }
+    let mut draft = draft_of(alloc, before)?;
+    take_effect(alloc, past, now, event, before, &mut draft)?;
+    finish(alloc, setup, now, before, &mut draft)?;
+    Ok(draft)
 }
 
 fn asked_entries(alloc: Global, groups: &[u32]) -> Result<Vec<Entry>, OutOfMemory>
@@ -195,6 +158,21 @@ fn fresh_session(
     })
 }
 
+// A fresh session with its first request.
+fn attached(
+    alloc: Global,
+    setup: &SmfSetup,
+    now: Moment,
+    fresh: Session,
+) -> Result<Session, OutOfMemory>
+    ensures { IfOk result (λ r. r ≡ finished setup.now now (with_request setup.now now Operation.Create fresh)) }
+{
+    let mut draft = draft_of(alloc, &fresh)?;
+    freeze_request(alloc, setup, now, Operation::Create, &fresh, &mut draft)?;
+    finish(alloc, setup, now, &fresh, &mut draft)?;
+    Ok(into_session(fresh, draft))
+}
+
 /// The session that an event adds.
 pub fn added_session(
     alloc: Global,
@@ -212,9 +190,8 @@ pub fn added_session(
             moment,
         } => {
             let groups = groups.as_slice();
-            let mut next = fresh_session(alloc, setup, *session, subscriber, groups, *moment)?;
-            freeze_request(alloc, setup, now, Operation::Create, &mut next)?;
-            finish(alloc, setup, now, &mut next)?;
+            let fresh = fresh_session(alloc, setup, *session, subscriber, groups, *moment)?;
+            let next = attached(alloc, setup, now, fresh)?;
             Ok(Some(next))
         }
         _ => Ok(None),

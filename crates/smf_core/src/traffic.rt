@@ -1,18 +1,18 @@
-ghost use Rattle.std.specs.Prelude.{◌≡◌, ◌==◌, ◌+◌, ◌<◌, ◌^◌, [], ◌∷◌, ◌++◌, nat_lt, IfOk, OnOk, map, filter, length, if◌then◌else◌, false};
+ghost use Rattle.std.specs.Prelude.{◌≡◌, ◌==◌, ◌+◌, ◌<◌, ◌^◌, [], ◌∷◌, ◌++◌, nat_lt, IfOk, OnOk, IsTrue, map, filter, length, if◌then◌else◌, false};
 ghost use Rattle.std.specs.List.{list_any};
-ghost use Rattle.meter.specs.Joining.{may_join, trigger_of, extended, opened};
+ghost use Rattle.smf_core.specs.Draft.{whole, joined_past, counted_past};
 ghost use Rattle.smf_core.specs.Rules.{is_immediate_for};
 ghost use Rattle.smf_core.specs.Settle.{is_open, is_open_of, entry_of, fire, is_at_once};
-ghost use Rattle.smf_core.specs.Traffic.{horizon_in, closes_before, close_of, extend_of, first_of, joined, taken, count_entry, counted_by, counted, new_entry, or_new, asked_entry, with_asked, started, close_any, has_open, is_change_at_once, changed, without_traffic, detached, ended, give_up, ended_for};
+ghost use Rattle.smf_core.specs.Traffic.{horizon_in, closes_before, close_of, extend_of, first_of as first_held, count_entry, new_entry, or_new, asked_entry, with_asked, started, close_any, has_open, is_change_at_once, changed, without_traffic, detached, ended, give_up, ended_for};
 
+use crate::draft::{Draft, Pending};
 use crate::freeze::{is_frozen_place, is_waiting_place};
 use crate::rules::{immediate, immediate_for};
 use crate::session::{Entry, Holding, Life, Place, Session, Why};
 use crate::settle::{
-    at_once, close_holding, entry_in, fire_entry, is_open_in, is_open_place, is_split,
-    open_container,
+    at_once, close_holding, entry_in, fire_entry, is_open_in, is_open_place, open_container,
 };
-use meter::Horizon;
+use meter::{Horizon, first_of, is_large, joins, trigger_before, with_report};
 use quotas::Group;
 use std::alloc::Global;
 use units::{Container, List, Moment, OutOfMemory, Report, TriggerType};
@@ -26,25 +26,8 @@ fn horizon_of(entry: Option<Entry>) -> Option<Horizon>
     }
 }
 
-fn joins(horizon: &Option<Horizon>, container: &Container, report: &Report) -> bool
-    ensures { result ≡ may_join horizon.now container.now report.now }
-{
-    !is_split(horizon, container.last, report.moment)
-        && container.seconds.checked_add(report.seconds).is_some()
-}
-
-fn trigger_between(horizon: &Option<Horizon>, container: &Container, report: &Report) -> TriggerType
-    ensures { result ≡ trigger_of horizon.now container.now report.now }
-{
-    if is_split(horizon, container.last, report.moment) {
-        TriggerType::TariffTimeChange
-    } else {
-        TriggerType::TimeLimit
-    }
-}
-
 // What closes the group's open container before a report.
-fn trigger_before(
+fn closing_trigger(
     horizon: &Option<Horizon>,
     report: &Report,
     container: Option<Container>,
@@ -57,7 +40,7 @@ fn trigger_before(
             if joins(horizon, &container, report) {
                 None
             } else {
-                Some(trigger_between(horizon, &container, report))
+                Some(trigger_before(horizon, &container, report))
             }
         }
     }
@@ -89,44 +72,32 @@ fn closed_in(
     Ok(next)
 }
 
-// No session comes to sums past their types; where one did, it would be as if memory were wanting.
-fn with_report(container: &Container, report: &Report) -> Result<Container, OutOfMemory>
-    ensures { IfOk result (λ c. c ≡ extended container.now report.now) }
+// Whether the sums of a container and a report fit their types; in no session do they not.
+fn fits(container: &Container, report: &Report) -> bool
+    ensures up { IsTrue result → container.now.up + report.now.up < 2 ^ 64 }
+    ensures down { IsTrue result → container.now.down + report.now.down < 2 ^ 64 }
+    ensures seconds { IsTrue result → container.now.seconds + report.now.seconds < 2 ^ 32 }
+    ensures reports { IsTrue result → container.now.reports + 1 < 2 ^ 32 }
 {
-    let Some(up) = container.up.checked_add(report.up) else {
-        return Err(OutOfMemory);
-    };
-    let Some(down) = container.down.checked_add(report.down) else {
-        return Err(OutOfMemory);
-    };
-    let Some(seconds) = container.seconds.checked_add(report.seconds) else {
-        return Err(OutOfMemory);
-    };
-    let Some(reports) = container.reports.checked_add(1) else {
-        return Err(OutOfMemory);
-    };
-    Ok(Container {
-        up,
-        down,
-        seconds,
-        last: report.moment,
-        reports,
-        ..*container
-    })
+    report.up <= u64::MAX - container.up
+        && report.down <= u64::MAX - container.down
+        && report.seconds <= u32::MAX - container.seconds
+        && container.reports < u32::MAX
 }
 
 fn extend_in(report: &Report, holding: &Holding) -> Result<Holding, OutOfMemory>
     ensures { IfOk result (λ h. h ≡ extend_of report.now holding.now) }
 {
-    if is_open_in(report.group, holding) {
-        let container = with_report(&holding.container, report)?;
-        Ok(Holding {
-            container,
-            ..*holding
-        })
-    } else {
-        Ok(*holding)
+    if !is_open_in(report.group, holding) {
+        return Ok(*holding);
     }
+    if !fits(&holding.container, report) {
+        return Err(OutOfMemory);
+    }
+    Ok(Holding {
+        container: with_report(&holding.container, report),
+        ..*holding
+    })
 }
 
 fn all_extended(
@@ -144,19 +115,10 @@ fn all_extended(
 }
 
 fn first_holding(lsn: u32, report: &Report) -> Holding
-    ensures { result ≡ first_of lsn report.now }
+    ensures { result ≡ first_held lsn report.now }
 {
     Holding {
-        container: Container {
-            lsn,
-            group: report.group,
-            up: report.up,
-            down: report.down,
-            seconds: report.seconds,
-            first: report.moment,
-            last: report.moment,
-            reports: 1,
-        },
+        container: first_of(lsn, report),
         trigger: None,
         moment: report.moment,
         place: Place::Open,
@@ -171,19 +133,20 @@ fn any_open(group: u32, holdings: &[Holding]) -> bool
 
 fn with_joined(
     alloc: Global,
+    past: usize,
     report: &Report,
     holdings: &[Holding],
 ) -> Result<Vec<Holding>, OutOfMemory>
-    ensures { IfOk result (λ v. v.items ≡ joined report.now holdings.now) }
+    ensures { IfOk result (λ v. v.items ≡ joined_past past report.now holdings.now) }
 {
     if any_open(report.group, holdings) {
         return all_extended(alloc, report, holdings);
     }
-    if holdings.len() >= 1 << 31 {
+    if past >= 1 << 31 || holdings.len() >= 1 << 31 {
         return Err(OutOfMemory);
     }
     let mut next = Vec::from_slice(alloc, holdings)?;
-    next.push(first_holding(holdings.len() as u32 + 1, report))?;
+    next.push(first_holding((past + holdings.len()) as u32 + 1, report))?;
     Ok(next)
 }
 
@@ -218,29 +181,31 @@ fn counted_entries(
 }
 
 /// Counts a report (TS 32.255, 5.2.1).
-pub fn count(alloc: Global, report: &Report, session: &mut Session) -> Result<(), OutOfMemory>
-    ensures { OnOk result (session.new ≡ counted report.now session.old) }
+pub fn count(
+    alloc: Global,
+    past: usize,
+    report: &Report,
+    before: &Session,
+    draft: &mut Draft,
+) -> Result<(), OutOfMemory>
+    ensures { OnOk result (whole before.now draft.new ≡ counted_past past report.now (whole before.now draft.old)) }
 {
     // no report that is accepted comes so far
-    if report.number == u32::MAX
-        || report.up > 1 << 40
-        || report.down > 1 << 40
-        || session.reports == u32::MAX
-    {
+    if report.number == u32::MAX || is_large(report) || draft.course.reports == u32::MAX {
         return Err(OutOfMemory);
     }
-    let holdings = session.holdings.as_slice();
-    let horizon = horizon_of(entry_in(session.groups.as_slice(), report.group));
-    let trigger = trigger_before(&horizon, report, open_container(holdings, report.group));
+    let holdings = draft.holdings.as_slice();
+    let horizon = horizon_of(entry_in(draft.groups.as_slice(), report.group));
+    let trigger = closing_trigger(&horizon, report, open_container(holdings, report.group));
     let closed = closed_in(alloc, report.group, report.moment, trigger, holdings)?;
-    let taken = with_joined(alloc, report, &closed)?;
-    let groups = counted_entries(alloc, report, session.groups.as_slice())?;
-    let came = at_once(session, report.group, trigger);
-    session.last = report.moment;
-    session.reports += 1;
-    session.holdings = List::from_vec(taken);
-    session.groups = List::from_vec(groups);
-    session.at_once = session.at_once || came;
+    let taken = with_joined(alloc, past, report, &closed)?;
+    let groups = counted_entries(alloc, report, draft.groups.as_slice())?;
+    let came = at_once(before, draft, report.group, trigger);
+    draft.course.last = report.moment;
+    draft.course.reports += 1;
+    draft.holdings = List::from_vec(taken);
+    draft.groups = List::from_vec(groups);
+    draft.course.at_once = draft.course.at_once || came;
     Ok(())
 }
 
@@ -310,13 +275,14 @@ pub fn start(
     alloc: Global,
     group: u32,
     moment: Moment,
-    session: &mut Session,
+    before: &Session,
+    draft: &mut Draft,
 ) -> Result<(), OutOfMemory>
-    ensures { OnOk result (session.new ≡ started group moment session.old) }
+    ensures { OnOk result (whole before.now draft.new ≡ started group moment (whole before.now draft.old)) }
 {
-    let groups = ask_group(alloc, group, session.groups.as_slice())?;
-    session.last = moment;
-    session.groups = List::from_vec(groups);
+    let groups = ask_group(alloc, group, draft.groups.as_slice())?;
+    draft.course.last = moment;
+    draft.groups = List::from_vec(groups);
     Ok(())
 }
 
@@ -359,43 +325,48 @@ fn all_fired(
     Ok(next)
 }
 
-fn any_is_open(session: &Session) -> bool
-    ensures { result ≡ has_open session.now }
+fn any_is_open(before: &Session, draft: &Draft) -> bool
+    ensures { result ≡ has_open (whole before.now draft.now) }
 {
-    session
+    draft
         .holdings
         .as_slice()
         .iter()
         .any(|h| is_open_place(h.place))
 }
 
-fn is_open_and_at_once(session: &Session, trigger: TriggerType, holding: &Holding) -> bool
-    ensures { result ≡ (if is_open holding.now.place then is_immediate_for session.now holding.now.container.group trigger else false) }
+fn is_open_and_at_once(
+    before: &Session,
+    draft: &Draft,
+    trigger: TriggerType,
+    holding: &Holding,
+) -> bool
+    ensures { result ≡ (if is_open holding.now.place then is_immediate_for (whole before.now draft.now) holding.now.container.group trigger else false) }
 {
     if is_open_place(holding.place) {
-        immediate_for(session, holding.container.group, trigger)
+        immediate_for(before, draft, holding.container.group, trigger)
     } else {
         false
     }
 }
 
-fn any_open_at_once(session: &Session, trigger: TriggerType) -> bool
-    ensures { result ≡ list_any (λ h. if is_open h.place then is_immediate_for session.now h.container.group trigger else false) session.now.holdings }
+fn any_open_at_once(before: &Session, draft: &Draft, trigger: TriggerType) -> bool
+    ensures { result ≡ list_any (λ h. if is_open h.place then is_immediate_for (whole before.now draft.now) h.container.group trigger else false) (whole before.now draft.now).holdings }
 {
-    session
+    draft
         .holdings
         .as_slice()
         .iter()
-        .any(|h| is_open_and_at_once(session, trigger, h))
+        .any(|h| is_open_and_at_once(before, draft, trigger, h))
 }
 
-fn change_at_once(session: &Session, trigger: TriggerType) -> bool
-    ensures { result ≡ is_change_at_once session.now trigger }
+fn change_at_once(before: &Session, draft: &Draft, trigger: TriggerType) -> bool
+    ensures { result ≡ is_change_at_once (whole before.now draft.now) trigger }
 {
-    if any_is_open(session) {
-        any_open_at_once(session, trigger)
+    if any_is_open(before, draft) {
+        any_open_at_once(before, draft, trigger)
     } else {
-        immediate(session, trigger)
+        immediate(before, draft, trigger)
     }
 }
 
@@ -404,17 +375,18 @@ pub fn change(
     alloc: Global,
     trigger: TriggerType,
     moment: Moment,
-    session: &mut Session,
+    before: &Session,
+    draft: &mut Draft,
 ) -> Result<(), OutOfMemory>
-    ensures { OnOk result (session.new ≡ changed trigger moment session.old) }
+    ensures { OnOk result (whole before.now draft.new ≡ changed trigger moment (whole before.now draft.old)) }
 {
-    let holdings = all_closed(alloc, moment, trigger, session.holdings.as_slice())?;
-    let groups = all_fired(alloc, Some(trigger), session.groups.as_slice())?;
-    let came = change_at_once(session, trigger);
-    session.last = moment;
-    session.holdings = List::from_vec(holdings);
-    session.groups = List::from_vec(groups);
-    session.at_once = session.at_once || came;
+    let holdings = all_closed(alloc, moment, trigger, draft.holdings.as_slice())?;
+    let groups = all_fired(alloc, Some(trigger), draft.groups.as_slice())?;
+    let came = change_at_once(before, draft, trigger);
+    draft.course.last = moment;
+    draft.holdings = List::from_vec(holdings);
+    draft.groups = List::from_vec(groups);
+    draft.course.at_once = draft.course.at_once || came;
     Ok(())
 }
 
@@ -423,13 +395,14 @@ fn end_traffic(
     life: Life,
     moment: Moment,
     trigger: TriggerType,
-    session: &mut Session,
+    before: &Session,
+    draft: &mut Draft,
 ) -> Result<(), OutOfMemory>
-    ensures { OnOk result (session.new ≡ without_traffic life moment trigger session.old) }
+    ensures { OnOk result (whole before.now draft.new ≡ without_traffic life moment trigger (whole before.now draft.old)) }
 {
-    let holdings = all_closed(alloc, moment, trigger, session.holdings.as_slice())?;
-    session.life = life;
-    session.holdings = List::from_vec(holdings);
+    let holdings = all_closed(alloc, moment, trigger, draft.holdings.as_slice())?;
+    draft.course.life = life;
+    draft.holdings = List::from_vec(holdings);
     Ok(())
 }
 
@@ -438,27 +411,40 @@ pub fn detach(
     alloc: Global,
     abnormal: bool,
     moment: Moment,
-    session: &mut Session,
+    before: &Session,
+    draft: &mut Draft,
 ) -> Result<(), OutOfMemory>
-    ensures { OnOk result (session.new ≡ detached abnormal moment session.old) }
+    ensures { OnOk result (whole before.now draft.new ≡ detached abnormal moment (whole before.now draft.old)) }
 {
     if abnormal {
         let trigger = TriggerType::AbnormalRelease;
-        end_traffic(alloc, Life::Aborting, moment, trigger, session)?;
+        end_traffic(alloc, Life::Aborting, moment, trigger, before, draft)?;
     } else {
-        end_traffic(alloc, Life::Ending, moment, TriggerType::Final, session)?;
+        end_traffic(
+            alloc,
+            Life::Ending,
+            moment,
+            TriggerType::Final,
+            before,
+            draft,
+        )?;
     }
-    session.last = moment;
+    draft.course.last = moment;
     Ok(())
 }
 
 /// The charging session is over.
-pub fn end(alloc: Global, now: Moment, session: &mut Session) -> Result<(), OutOfMemory>
-    ensures { OnOk result (session.new ≡ ended now session.old) }
+pub fn end(
+    alloc: Global,
+    now: Moment,
+    before: &Session,
+    draft: &mut Draft,
+) -> Result<(), OutOfMemory>
+    ensures { OnOk result (whole before.now draft.new ≡ ended now (whole before.now draft.old)) }
 {
     let trigger = TriggerType::AbnormalRelease;
-    end_traffic(alloc, Life::Ended, now, trigger, session)?;
-    session.request = None;
+    end_traffic(alloc, Life::Ended, now, trigger, before, draft)?;
+    draft.pending = Pending::Nothing;
     Ok(())
 }
 
@@ -487,12 +473,13 @@ pub fn end_for(
     alloc: Global,
     why: Why,
     now: Moment,
-    session: &mut Session,
+    before: &Session,
+    draft: &mut Draft,
 ) -> Result<(), OutOfMemory>
-    ensures { OnOk result (session.new ≡ ended_for why now session.old) }
+    ensures { OnOk result (whole before.now draft.new ≡ ended_for why now (whole before.now draft.old)) }
 {
-    end(alloc, now, session)?;
-    let holdings = all_given_up(alloc, why, session.holdings.as_slice())?;
-    session.holdings = List::from_vec(holdings);
+    end(alloc, now, before, draft)?;
+    let holdings = all_given_up(alloc, why, draft.holdings.as_slice())?;
+    draft.holdings = List::from_vec(holdings);
     Ok(())
 }

@@ -1,0 +1,162 @@
+ghost use Rattle.std.specs.Prelude.{◌≡◌, ◌-◌, ◌++◌, IfOk, length, map, filter};
+ghost use Rattle.smf_core.specs.Draft.{effect_past};
+ghost use Rattle.smf_core.specs.Machine.{finished};
+ghost use Rattle.smf_core.specs.Reads.{is_held, is_held_at, containers_of};
+ghost use Rattle.smf_core.specs.Caches.{live_after, layers_added, place_at, says, SaysSame, IsMade, HasParts, ChangesRules};
+
+use crate::answers::added_layers;
+use crate::draft::Draft;
+use crate::event::SmfEvent;
+use crate::plan::{Change, RuleChange};
+use crate::session::{Holding, Layer, Place, Session};
+use crate::setup::SmfSetup;
+use crate::step::draft_after;
+use std::alloc::Global;
+use units::{Container, List, Moment, OutOfMemory, copy};
+
+/// Whether a container is held.
+pub fn is_held_holding(holding: &Holding) -> bool
+    ensures { result ≡ is_held holding.now }
+{
+    matches!(holding.place, Place::Open | Place::Waiting | Place::Frozen)
+}
+
+/// The containers of a list.
+pub fn containers_from(alloc: Global, holdings: &[Holding]) -> Result<Vec<Container>, OutOfMemory>
+    ensures { IfOk result (λ v. v.items ≡ containers_of holdings.now) }
+{
+    let containers = holdings.iter().map(|h| h.container).collect(alloc)?;
+    Ok(containers)
+}
+
+/// Those of a list that are held.
+pub fn held_from(alloc: Global, holdings: &[Holding]) -> Result<Vec<Holding>, OutOfMemory>
+    ensures { IfOk result (λ v. v.items ≡ filter is_held holdings.now) }
+{
+    let mut held = Vec::new(alloc);
+    for holding in holdings {
+        if is_held_holding(holding) {
+            held.push(*holding)?;
+        }
+    }
+    Ok(held)
+}
+
+// The place of one that came after so many of which these were held.
+fn place_of(places: &[usize], count: usize, at: usize) -> Result<usize, OutOfMemory>
+    ensures { IfOk result (λ p. p ≡ place_at places.now count at) }
+{
+    if at < places.len() {
+        return Ok(places[at]);
+    }
+    match count.checked_add(at - places.len()) {
+        Some(place) => Ok(place),
+        None => Err(OutOfMemory),
+    }
+}
+
+// The places of what is held after others took the places of what was held.
+fn places_after(
+    alloc: Global,
+    places: &[usize],
+    count: usize,
+    moved: &[Holding],
+) -> Result<List<usize>, OutOfMemory>
+    ensures { IfOk result (λ r. r ≡ live_after places.now count moved.now) }
+{
+    let mut next = List::new(alloc);
+    for (at, holding) in moved.iter().enumerate() {
+        if is_held_holding(holding) {
+            next.push(place_of(places, count, at)?)?;
+        }
+    }
+    Ok(next)
+}
+
+// The rules, and those of an answer that say something.
+fn with_saying(before: &List<Layer>, added: &List<Layer>) -> Result<List<Layer>, OutOfMemory>
+    ensures { IfOk result (λ r. r ≡ before.now ++ filter says added.now) }
+{
+    let mut said = copy(before)?;
+    for layer in added.as_slice() {
+        if layer.rules.len() > 0 {
+            said.push(copy(layer)?)?;
+        }
+    }
+    Ok(said)
+}
+
+// What the rules say, with those of an answer.
+fn said_with(before: &List<Layer>, added: &List<Layer>) -> Result<List<Layer>, OutOfMemory>
+    ensures { IfOk result (λ r. SaysSame (before.now ++ added.now) r) }
+{
+    let said = with_saying(before, added)?;
+    Ok(said)
+}
+
+fn rule_change(
+    alloc: Global,
+    before: &Session,
+    event: &SmfEvent,
+) -> Result<Option<RuleChange>, OutOfMemory>
+    ensures { IfOk result (λ r. ChangesRules r before.now.rules (layers_added event.now before.now)) }
+{
+    match added_layers(alloc, event, before)? {
+        None => Ok(None),
+        Some(added) => {
+            let said = said_with(&before.rules, &added)?;
+            Ok(Some(RuleChange { added, said }))
+        }
+    }
+}
+
+fn change_from(
+    alloc: Global,
+    places: &[usize],
+    count: usize,
+    rules: Option<RuleChange>,
+    draft: Draft,
+) -> Result<Change, OutOfMemory>
+    ensures { IfOk result (λ c. HasParts c draft rules places.now count) }
+{
+    let Draft {
+        course,
+        groups,
+        holdings,
+        rules: _,
+        pending,
+    } = draft;
+    let containers = containers_from(alloc, holdings.as_slice())?;
+    let live = held_from(alloc, holdings.as_slice())?;
+    let held = containers_from(alloc, &live)?;
+    let places = places_after(alloc, places, count, holdings.as_slice())?;
+    Ok(Change {
+        course,
+        groups,
+        moved: holdings,
+        containers: List::from_vec(containers),
+        live: List::from_vec(live),
+        places,
+        held: List::from_vec(held),
+        rules,
+        pending,
+    })
+}
+
+/// What an event makes of a session that it touches, of which only what is held is kept: where that is, and how many containers there are.
+pub fn change_of(
+    alloc: Global,
+    setup: &SmfSetup,
+    now: Moment,
+    event: &SmfEvent,
+    before: &Session,
+    places: &[usize],
+    count: usize,
+) -> Result<Change, OutOfMemory>
+    ensures { IfOk result (λ c. IsMade c before.now places.now count (layers_added event.now before.now) (finished setup.now now (effect_past (count - length places.now) now event.now before.now))) }
+{
+    let past = count.saturating_sub(places.len());
+    let draft = draft_after(alloc, setup, past, now, event, before)?;
+    let rules = rule_change(alloc, before, event)?;
+    change_from(alloc, places, count, rules, draft)
+}

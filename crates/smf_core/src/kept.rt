@@ -1,0 +1,249 @@
+ghost use Rattle.std.specs.Prelude.{◌≡◌, ◌<◌, ◌≤◌, ◌+◌, IfOk, OnOk, length, map, vec_len, vec_capacity};
+ghost use Rattle.std.specs.Option.{option_copied};
+ghost use Rattle.smf_core.specs.Machine.{touches, effect, finished, gate_for, expected_of};
+ghost use Rattle.smf_core.specs.Lookup.{answer_at};
+ghost use Rattle.smf_core.specs.Reads.{is_held, containers_of, held_of};
+ghost use Rattle.smf_core.specs.Plan.{changed, Fits, rules_with};
+ghost use Rattle.smf_core.specs.Caches.{all_layers, said_after, put_places, places_from, after_change};
+
+use crate::change::{change_of, containers_from, held_from, is_held_holding};
+use crate::checks::{check_found, expected, gate};
+use crate::draft::{Course, Pending, request_left};
+use crate::event::SmfEvent;
+use crate::plan::{Change, RuleChange};
+use crate::refusal::{Seen, SmfRefusal};
+use crate::session::{Entry, Holding, Layer, Session};
+use crate::setup::SmfSetup;
+use crate::step::is_touched;
+use quotas::Gate;
+use std::alloc::Global;
+use std::marker::Model;
+use std::mem;
+use units::{Container, List, Moment, OutOfMemory, Request, copy};
+
+/// A session as the machine keeps it: what events look at, which is what is held, beside all its containers and trigger rules.
+#[derive(Drop)]
+pub struct Kept {
+    session: Session,
+    holdings: Vec<Holding>,
+    rules: Vec<List<Layer>>,
+    places: List<usize>,
+    containers: Vec<Container>,
+    held: List<Container>,
+}
+
+impl Model for Kept {
+    ghost use Rattle.std.specs.Prelude.{◌-◌, min, vec_len, vec_capacity};
+    ghost use Rattle.smf_core.specs.Caches.{KeptAs, IsKept, all_layers, full};
+
+    ghost Value = { KeptAs };
+
+    ghost view = { λ k. record { session = full k.session k.holdings.items (all_layers k.rules.items); room = min (vec_capacity k.holdings - vec_len k.holdings) (min (vec_capacity k.containers - vec_len k.containers) (vec_capacity k.rules - vec_len k.rules)) } };
+
+    ghost invariant = { λ k. IsKept k.session k.holdings.items (all_layers k.rules.items) k.places k.containers.items k.held };
+}
+
+// Others written at places, one after another; the one that is left comes at the end.
+fn put_all<T: Copy>(all: &mut Vec<T>, places: &[usize], next: &[T])
+    requires one { length next.now ≤ length places.now + 1 }
+    requires room { vec_len all.old < vec_capacity all.old }
+    ensures { all.new.items ≡ put_places places.now next.now all.old.items }
+{
+    for (at, item) in next.iter().enumerate() {
+        if at < places.len() {
+            let place = places[at];
+            if place < all.len() {
+                all[place] = *item;
+            }
+        } else {
+            all.push_reserved(*item);
+        }
+    }
+}
+
+// The place of each container that is held.
+fn places_of(alloc: Global, all: &[Holding]) -> Result<List<usize>, OutOfMemory>
+    ensures { IfOk result (λ r. r ≡ places_from 0 all.now) }
+{
+    let mut places = List::new(alloc);
+    for (at, holding) in all.iter().enumerate() {
+        if is_held_holding(holding) {
+            places.push(at)?;
+        }
+    }
+    Ok(places)
+}
+
+// Takes the trigger rules that a change adds, and what all of them say.
+fn add_rules(all: &mut Vec<List<Layer>>, said: &mut List<Layer>, change: Option<RuleChange>)
+    requires { vec_len all.old < vec_capacity all.old }
+    ensures all { all_layers all.new.items ≡ rules_with (all_layers all.old.items) change }
+    ensures said { said.new ≡ said_after change said.old }
+{
+    if let Some(change) = change {
+        let RuleChange { added, said: now } = change;
+        all.push_reserved(added);
+        *said = now;
+    }
+}
+
+// A session as a change leaves what events look at.
+fn settle_in(
+    session: &mut Session,
+    course: Course,
+    groups: List<Entry>,
+    live: List<Holding>,
+    pending: Pending,
+)
+    ensures { session.new ≡ after_change session.old course groups live pending }
+{
+    session.reference = course.reference;
+    session.life = course.life;
+    session.last = course.last;
+    session.count = course.count;
+    session.reports = course.reports;
+    session.at_once = course.at_once;
+    session.failover = course.failover;
+    session.handling = course.handling;
+    session.groups = groups;
+    session.holdings = live;
+    let request = mem::replace(&mut session.request, None);
+    session.request = request_left(request, pending);
+}
+
+impl Kept {
+    /// What is kept of a session.
+    pub fn of(alloc: Global, session: Session) -> Result<Kept, OutOfMemory>
+        ensures { IfOk result (λ k. k.session ≡ session) }
+    {
+        let mut session = session;
+        let live = held_from(alloc, session.holdings.as_slice())?;
+        let places = places_of(alloc, session.holdings.as_slice())?;
+        let containers = containers_from(alloc, session.holdings.as_slice())?;
+        let held = containers_from(alloc, &live)?;
+        let mut rules = Vec::new(alloc);
+        rules.push(copy(&session.rules)?)?;
+        let holdings = mem::replace(&mut session.holdings, List::from_vec(live));
+        Ok(Kept {
+            session,
+            holdings: holdings.into_vec(),
+            rules,
+            places,
+            containers,
+            held: List::from_vec(held),
+        })
+    }
+
+    /// Its number.
+    pub fn number(&self) -> u32
+        ensures { result ≡ self.now.session.number }
+    {
+        self.session.number
+    }
+
+    /// The answer to an event that is for it.
+    pub fn check(&self, event: &SmfEvent) -> Result<Seen, SmfRefusal>
+        ensures { result ≡ answer_at event.now self.now.session }
+    {
+        check_found(event, &self.session)
+    }
+
+    /// Whether an event touches it.
+    pub fn is_touched(&self, event: &SmfEvent) -> bool
+        ensures { result ≡ touches event.now self.now.session }
+    {
+        is_touched(event, &self.session)
+    }
+
+    /// What an event makes of it, and room for that.
+    pub fn change(
+        &mut self,
+        alloc: Global,
+        setup: &SmfSetup,
+        now: Moment,
+        event: &SmfEvent,
+    ) -> Result<Change, OutOfMemory>
+        ensures made { IfOk result (λ c. changed c self.old.session ≡ finished setup.now now (effect now event.now self.old.session)) }
+        ensures fits { IfOk result (λ c. Fits c self.old.session) }
+        ensures same { self.new.session ≡ self.old.session }
+        ensures room { OnOk result (0 < self.new.room) }
+    {
+        self.holdings.reserve(1)?;
+        self.containers.reserve(1)?;
+        self.rules.reserve(1)?;
+        let places = self.places.as_slice();
+        change_of(
+            alloc,
+            setup,
+            now,
+            event,
+            &self.session,
+            places,
+            self.holdings.len(),
+        )
+    }
+
+    /// Takes a change that was made for it; it takes no memory.
+    pub fn take(&mut self, change: Change)
+        requires fits { Fits change self.old.session }
+        requires room { 0 < self.old.room }
+        ensures { self.new.session ≡ changed change self.old.session }
+    {
+        let Change {
+            course,
+            groups,
+            moved,
+            containers,
+            live,
+            places,
+            held,
+            rules,
+            pending,
+        } = change;
+        put_all(&mut self.holdings, self.places.as_slice(), moved.as_slice());
+        put_all(
+            &mut self.containers,
+            self.places.as_slice(),
+            containers.as_slice(),
+        );
+        self.places = places;
+        self.held = held;
+        add_rules(&mut self.rules, &mut self.session.rules, rules);
+        settle_in(&mut self.session, course, groups, live, pending);
+    }
+
+    /// Its unanswered request, `None` exactly where there is none.
+    pub fn request(&self) -> Option<&Request>
+        ensures { option_copied result ≡ self.now.session.request }
+    {
+        self.session.request.as_ref()
+    }
+
+    /// What becomes of a rating group's traffic.
+    pub fn gate(&self, group: u32) -> Gate
+        ensures { result ≡ gate_for group self.now.session }
+    {
+        gate(&self.session, group)
+    }
+
+    /// The number of a rating group's next report.
+    pub fn expected(&self, group: u32) -> u32
+        ensures { result ≡ expected_of group self.now.session }
+    {
+        expected(&self.session, group)
+    }
+
+    /// Its containers, in order of their numbers.
+    pub fn containers(&self) -> &[Container]
+        ensures { result.now ≡ containers_of self.now.session.holdings }
+    {
+        self.containers.as_slice()
+    }
+
+    /// Those that are open, or closed and neither answered by a final success nor given up.
+    pub fn held(&self) -> &[Container]
+        ensures { result.now ≡ held_of self.now.session.holdings }
+    {
+        self.held.as_slice()
+    }
+}
