@@ -1,4 +1,10 @@
 pub mod Texts
+pub mod Utf8
+pub mod Whole
+pub mod LineByLine
+pub mod FieldTexts
+pub mod OneRow
+pub mod Begun
 pub mod Fields
 pub mod Readings
 pub mod Runs

@@ -1,9 +1,13 @@
 //! The commands, from the words of the command line and the bytes of the input to the bytes of the output.
 #![tactic(auto)]
 
+mod accepted;
 mod csv_rows;
+mod item;
+mod line_items;
 mod lines;
 mod meter_rows;
+mod row_items;
 mod status;
 mod top;
 mod words;

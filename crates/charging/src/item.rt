@@ -1,0 +1,28 @@
+use units::{List, Text};
+
+/// The method of a message (RFC 9110, 9.3).
+#[derive(Clone, Copy, PartialEq, Eq, Debug)]
+pub enum Method {
+    Post,
+    Put,
+    Delete,
+}
+
+/// A row or line of an input.
+#[derive(Debug, Drop)]
+pub enum Item {
+    /// An empty line, which is passed over but counted.
+    Blank,
+    /// The fields of a row.
+    Row {
+        fields: List<Text>,
+    },
+    /// A message to the charging function.
+    Message {
+        method: Method,
+        path: Text,
+        body: List<u8>,
+    },
+    /// What is no row and no message.
+    Bad,
+}

@@ -1,0 +1,10 @@
+use Rattle.std.proofs.Common.{◌≡◌, ◌++◌, ℕ, length, option_map}
+use Rattle.chf_rows.specs.OperatorRow.{groups_in}
+use Rattle.chf_rows.specs.Pieces.{pieces}
+use Rattle.chf_rows.proofs.operator_row.groups_in.Given as goal
+
+abbrev pub invariant-loop-group : goal.invariant-loop-group
+invariant-loop-group l = groups_in (pieces 32 l.fn.field) ≡ option_map (λ more. l.groups ++ more) (groups_in (pieces 32 l.rest))
+
+abbrev pub decreases-loop-group : goal.decreases-loop-group
+decreases-loop-group l = length l.rest

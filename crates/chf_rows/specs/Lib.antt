@@ -1,0 +1,4 @@
+pub mod Size
+pub mod Setup
+pub mod Pieces
+pub mod OperatorRow

@@ -1,0 +1,92 @@
+-- The setup rows of a charging function: the rows of a tariff, then `limits,VOLUME,SECONDS,CHANGES,CONTAINERS,GRACE,NAME,FAILOVER` (this product's own).
+use Rattle.std.specs.Prelude.{ℕ, ◌+◌, ◌-◌, ◌^◌, ◌||◌, min, nat_le, bytes_eq, Bool, true, false, List, [], ◌∷◌, take, drop, Option, Some, None, Result, Ok, Err, if◌then◌else◌, option_and_then, codes}
+use Rattle.rows.specs.Number.{number_of}
+use Rattle.rows.specs.Name.{spells_name}
+use Rattle.rating.specs.Grammar.{first_bad}
+use Rattle.chf_core.specs.declared.setup.ChfSetup.{ChfSetup}
+use Rattle.chf_rows.specs.declared.limits.Limits.{Limits}
+use Rattle.chf_rows.specs.declared.refusal.SetupRefusal.{SetupRefusal}
+use Rattle.chf_rows.specs.declared.refusal.SetupRefusal.TheVariants.{BadRow}
+use Rattle.chf_rows.specs.Size.{first_past}
+
+-- whether a row is of a kind that setup rows have; no counter row is accepted yet
+abbrev pub is_setup_row : List (List ℕ) → Bool
+is_setup_row [] = false
+is_setup_row (word ∷ fields) = bytes_eq word (codes "group") || (bytes_eq word (codes "price") || (bytes_eq word (codes "counter") || bytes_eq word (codes "limits")))
+
+-- whether session failover is supported, by its word (TS 32.291, 6.1.6.3)
+abbrev pub failover_of : List ℕ → Option Bool
+failover_of word =
+    if bytes_eq word (codes "FAILOVER_SUPPORTED") then Some true else
+    (if bytes_eq word (codes "FAILOVER_NOT_SUPPORTED") then Some false else None)
+
+-- a name
+abbrev pub name_of : List ℕ → Option (List ℕ)
+name_of field = if spells_name field then Some field else None
+
+-- the fields of a limits row after its word: of a record its octets, seconds, changes and containers, 0 for no limit; the seconds after a quota's
+-- validity until it is given back; the recording function's name; failover
+abbrev pub limits_of : List (List ℕ) → Option Limits
+limits_of (volume ∷ seconds ∷ changes ∷ containers ∷ grace ∷ name ∷ failover ∷ []) =
+    option_and_then (λ v. option_and_then (λ s. option_and_then (λ c. option_and_then (λ n. option_and_then (λ g. option_and_then (λ r. option_and_then (λ f.
+    Some (record { grace = g; failover = f })) (failover_of failover)) (name_of name)) (number_of 604800 grace)) (number_of (2 ^ 32 - 1) containers))
+    (number_of (2 ^ 32 - 1) changes)) (number_of (2 ^ 32 - 1) seconds)) (number_of (2 ^ 64 - 1) volume)
+limits_of _ = None
+
+-- whether a row is a limits row, by its word
+abbrev pub is_limits_row : List (List ℕ) → Bool
+is_limits_row [] = false
+is_limits_row (word ∷ fields) = bytes_eq word (codes "limits")
+
+abbrev pub limits_row : List (List ℕ) → Option Limits
+limits_row [] = None
+limits_row (word ∷ fields) = limits_of fields
+
+-- how many rows stand before the first limits row, all where there is none
+abbrev pub limits_place : List (List (List ℕ)) → ℕ
+limits_place [] = 0
+limits_place (row ∷ rows) = if is_limits_row row then 0 else limits_place rows + 1
+
+-- a limits row under this number, and nothing after it, or the number of the row that is not accepted
+abbrev pub alone : Option Limits → ℕ → List (List (List ℕ)) → Result Limits ℕ
+alone None number rows = Err number
+alone (Some limits) number [] = Ok limits
+alone (Some limits) number (row ∷ rows) = Err (number + 1)
+
+-- the limits row that ends a setup whose tariff has that many rows
+abbrev pub ending : ℕ → List (List (List ℕ)) → Result Limits ℕ
+ending tariff [] = Err (tariff + 1)
+ending tariff (row ∷ rows) = alone (limits_row row) (tariff + 1) rows
+
+-- a tariff in which a group has no price row lacks it at the end of the setup
+abbrev pub lacking : ℕ → Result Limits ℕ → Result Limits ℕ
+lacking tariff (Err number) = Err number
+lacking tariff (Ok limits) = Err (tariff + 2)
+
+-- a bad row of the tariff comes before its end
+abbrev pub with_tariff : ℕ → Option ℕ → Result Limits ℕ → Result Limits ℕ
+with_tariff tariff None end = end
+with_tariff tariff (Some number) end = if nat_le number tariff then Err number else lacking tariff end
+
+-- the row with which rows have too many bytes is bad
+abbrev pub with_size : Option ℕ → Result Limits ℕ → Result Limits ℕ
+with_size None limits = limits
+with_size (Some number) (Err other) = Err (min number other)
+with_size (Some number) (Ok limits) = Err number
+
+-- the limits of a setup, or the number of its first row that is not accepted
+abbrev pub limits_answer : List (List (List ℕ)) → Result Limits ℕ
+limits_answer rows = with_size (first_past 65536 1 rows) (with_tariff (limits_place rows) (first_bad [] (take (limits_place rows) rows)) (ending (limits_place rows) (drop (limits_place rows) rows)))
+
+abbrev pub setup_with : List (List (List ℕ)) → Result Limits ℕ → Result ChfSetup ℕ
+setup_with tariffs (Ok limits) = Ok (record { tariffs = tariffs; grace = limits.grace; failover = limits.failover })
+setup_with tariffs (Err number) = Err number
+
+-- the setup that rows give, or the number of its first row, counted from 1, that is not accepted; the row after the last where a price row or the limits row is lacking
+abbrev pub setup_answer : List (List (List ℕ)) → Result ChfSetup ℕ
+setup_answer rows = setup_with (take (limits_place rows) rows) (limits_answer rows)
+
+-- the same with a refusal that names the row
+abbrev pub naming_row : Result ChfSetup ℕ → Result ChfSetup SetupRefusal
+naming_row (Ok setup) = Ok setup
+naming_row (Err number) = Err (BadRow number)

@@ -1,0 +1,118 @@
+ghost use Rattle.std.specs.Prelude.{◌≡◌, IfOk, option_map};
+ghost use Rattle.chf_rows.specs.OperatorRow.{amount_of, command_in, command_of, expire_of, groups_in, groups_of, subscriber_of, topup_of};
+ghost use Rattle.chf_rows.specs.Pieces.{pieces};
+
+use crate::fields::name;
+use crate::separated::piece_length;
+use crate::size::row_size;
+use chf_core::Command;
+use rows::{number, wide_number};
+use std::alloc::Global;
+use units::{List, Moment, OutOfMemory, Text, copy};
+
+// The rating groups that are the pieces between single spaces.
+fn groups_in(alloc: Global, field: &[u8]) -> Result<Option<List<u32>>, OutOfMemory>
+    ensures { IfOk result (λ o. o ≡ groups_in (pieces 32 field.now)) }
+{
+    let mut groups = List::new(alloc);
+    let mut rest = field;
+    loop {
+        let count = piece_length(b' ', rest);
+        let Some(group) = number(u64::from(u32::MAX), &rest[..count]) else {
+            return Ok(None);
+        };
+        groups.push(group as u32)?;
+        if count >= rest.len() {
+            return Ok(Some(groups));
+        }
+        rest = &rest[count + 1..];
+    }
+}
+
+// The rating groups of a field.
+fn groups(alloc: Global, field: &[u8]) -> Result<Option<List<u32>>, OutOfMemory>
+    ensures { IfOk result (λ o. o ≡ groups_of field.now) }
+{
+    match field {
+        [] => Ok(Some(List::new(alloc))),
+        _ => groups_in(alloc, field),
+    }
+}
+
+fn subscriber(alloc: Global, fields: &[Text]) -> Result<Option<Command>, OutOfMemory>
+    ensures { IfOk result (λ o. o ≡ subscriber_of fields.now) }
+{
+    let [supi, account, barred] = fields else {
+        return Ok(None);
+    };
+    let (Some(supi), Some(account)) = (name(supi), name(account)) else {
+        return Ok(None);
+    };
+    match groups(alloc, barred.as_str().as_bytes())? {
+        Some(barred) => Ok(Some(Command::Subscriber {
+            supi: copy(supi)?,
+            account: copy(account)?,
+            barred,
+        })),
+        None => Ok(None),
+    }
+}
+
+fn amount(field: &Text) -> Option<u128>
+    ensures { result ≡ amount_of field.now }
+{
+    let amount = wide_number(1 << 80, field.as_str().as_bytes())?;
+    if amount > 0 { Some(amount) } else { None }
+}
+
+fn topup(fields: &[Text]) -> Result<Option<Command>, OutOfMemory>
+    ensures { IfOk result (λ o. o ≡ topup_of fields.now) }
+{
+    let [id, account, sum] = fields else {
+        return Ok(None);
+    };
+    match (name(id), name(account), amount(sum)) {
+        (Some(id), Some(account), Some(amount)) => Ok(Some(Command::TopUp {
+            id: copy(id)?,
+            account: copy(account)?,
+            amount,
+        })),
+        _ => Ok(None),
+    }
+}
+
+fn expire(fields: &[Text]) -> Option<Command>
+    ensures { result ≡ expire_of fields.now }
+{
+    match fields {
+        [moment] => Some(Command::Expire {
+            moment: Moment::new(number(Moment::LAST, moment.as_str().as_bytes())?)?,
+        }),
+        _ => None,
+    }
+}
+
+fn command_in(alloc: Global, fields: &[Text]) -> Result<Option<Command>, OutOfMemory>
+    ensures { IfOk result (λ o. o ≡ command_in fields.now) }
+{
+    match fields {
+        [word, rest @ ..] if word.as_str() == "subscriber" => subscriber(alloc, rest),
+        [word, rest @ ..] if word.as_str() == "topup" => topup(rest),
+        [word, rest @ ..] if word.as_str() == "expire" => Ok(expire(rest)),
+        _ => Ok(None),
+    }
+}
+
+/// The most bytes of an operator's row, with a line feed.
+const MOST_BYTES: usize = 1_048_577;
+
+/// The command that an operator's row gives, `None` exactly where it is none.
+pub fn read_operator_row(alloc: Global, fields: &[Text]) -> Result<Option<Command>, OutOfMemory>
+    ensures { IfOk result (λ o. o ≡ command_of fields.now) }
+{
+    if row_size(fields) <= MOST_BYTES {
+        command_in(alloc, fields)
+    } else {
+        Ok(None)
+    }
+}

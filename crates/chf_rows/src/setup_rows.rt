@@ -1,0 +1,138 @@
+ghost use Rattle.std.specs.Prelude.{◌≡◌, ◌<◌, ◌+◌, ◌^◌, [], take, drop, None, IsSome, IfOk, IfErr, Ok, Err, Result, MatchOption};
+ghost use Rattle.units.specs.Answers.{IsOrNoMemory};
+ghost use Rattle.rating.specs.Grammar.{first_bad};
+ghost use Rattle.chf_rows.specs.Setup.{alone, ending, is_setup_row, limits_answer, limits_place, lacking, naming_row, setup_answer, with_size, with_tariff};
+
+use crate::limits::{Limits, limits_place, limits_row};
+use crate::refusal::SetupRefusal;
+use crate::size::first_past;
+use chf_core::ChfSetup;
+use rating::{RatingRefusal, Tariffs};
+use std::alloc::Global;
+use units::{List, OutOfMemory, Text, copy};
+
+/// Whether a row is of a kind that setup rows have.
+pub fn is_setup_row(fields: &[Text]) -> bool
+    ensures { result ≡ is_setup_row fields.now }
+{
+    match fields {
+        [word, ..] => {
+            let word = word.as_str();
+            word == "group" || word == "price" || word == "counter" || word == "limits"
+        }
+        [] => false,
+    }
+}
+
+/// The most bytes of setup rows.
+const MOST_BYTES: usize = 65_536;
+
+// The first rows.
+fn front(alloc: Global, rows: &[List<Text>]) -> Result<List<List<Text>>, OutOfMemory>
+    ensures { IfOk result (λ front. front ≡ rows.now) }
+{
+    let mut front = List::new(alloc);
+    for row in rows {
+        front.push(copy(row)?)?;
+    }
+    Ok(front)
+}
+
+// A limits row under this number, and nothing after it.
+fn alone(limits: Option<Limits>, number: usize, rows: &[List<Text>]) -> Result<Limits, usize>
+    requires { number < 2 ^ 63 + 1 }
+    ensures { result ≡ alone limits number rows.now }
+{
+    match limits {
+        Some(limits) => match rows {
+            [] => Ok(limits),
+            _ => Err(number + 1),
+        },
+        None => Err(number),
+    }
+}
+
+// The limits row that ends a setup whose tariff has that many rows.
+fn ending(tariff: usize, rows: &[List<Text>]) -> Result<Limits, usize>
+    requires { tariff < 2 ^ 63 }
+    ensures { result ≡ ending tariff rows.now }
+{
+    match rows {
+        [row, rest @ ..] => alone(limits_row(row.as_slice()), tariff + 1, rest),
+        [] => Err(tariff + 1),
+    }
+}
+
+fn with_tariff(
+    tariff: usize,
+    bad: Option<u32>,
+    end: Result<Limits, usize>,
+) -> Result<Limits, usize>
+    requires { tariff < 2 ^ 63 }
+    ensures { result ≡ with_tariff tariff bad end }
+{
+    match bad {
+        None => end,
+        Some(row) => if row as usize <= tariff {
+            Err(row as usize)
+        } else {
+            match end {
+                Ok(_) => Err(tariff + 2),
+                Err(row) => Err(row),
+            }
+        },
+    }
+}
+
+fn with_size(past: Option<usize>, limits: Result<Limits, usize>) -> Result<Limits, usize>
+    ensures { result ≡ with_size past limits }
+{
+    match past {
+        None => limits,
+        Some(row) => match limits {
+            Ok(_) => Err(row),
+            Err(other) => Err(row.min(other)),
+        },
+    }
+}
+
+// The first bad row of a tariff and, where there is none, the tariffs.
+fn tariffs(
+    alloc: Global,
+    rows: &List<List<Text>>,
+) -> Result<(Option<u32>, Option<Tariffs>), OutOfMemory>
+    ensures bad { IfOk result (λ both. both.0 ≡ first_bad [] rows.now) }
+    ensures good { IfOk result (λ both. MatchOption both.1 (IsSome both.0) (λ t. (t ≡ rows.now) × (both.0 ≡ None))) }
+{
+    match Tariffs::read(alloc, rows) {
+        Ok(tariffs) => Ok((None, Some(tariffs))),
+        Err(RatingRefusal::BadRow { row }) => Ok((Some(row), None)),
+        Err(RatingRefusal::OutOfMemory) => Err(OutOfMemory),
+    }
+}
+
+/// The setup that rows give.
+///
+/// # Errors
+///
+/// `BadRow` names the first row, counted from 1, that is not accepted: first the rows of a tariff, then one limits row, and nothing after it, of at
+/// most 65,536 bytes together.
+pub fn read_setup(alloc: Global, rows: &[List<Text>]) -> Result<ChfSetup, SetupRefusal>
+    ensures { IsOrNoMemory SetupRefusal.OutOfMemory result (naming_row (setup_answer rows.now)) }
+{
+    let place = limits_place(rows);
+    let front = front(alloc, &rows[..place])?;
+    let (bad, tariffs) = tariffs(alloc, &front)?;
+    let end = with_tariff(place, bad, ending(place, &rows[place..]));
+    match with_size(first_past(MOST_BYTES, rows), end) {
+        Ok(limits) => match tariffs {
+            Some(tariffs) => Ok(ChfSetup {
+                tariffs,
+                grace: limits.grace,
+                failover: limits.failover,
+            }),
+            None => unreachable!(),
+        },
+        Err(row) => Err(SetupRefusal::BadRow { row }),
+    }
+}
