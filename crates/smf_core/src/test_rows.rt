@@ -368,13 +368,3 @@ pub fn agrees(smf: &Smf, machine: &Machine) -> bool {
     }
     smf.sessions().len() == machine.sessions.len()
 }
-
-/// The events, the newest first.
-pub fn newest_first(alloc: Global, events: Vec<SmfEvent>) -> Result<Vec<SmfEvent>, Fail> {
-    let mut events = events;
-    let mut turned = Vec::new(alloc);
-    while let Some(event) = events.pop() {
-        turned.push(event)?;
-    }
-    Ok(turned)
-}

@@ -1,5 +1,5 @@
 use crate::test_draws::{Draws, drawn};
-use crate::test_rows::{agrees, newest_first, outcome, setup, taken};
+use crate::test_rows::{agrees, outcome, setup, taken};
 use crate::{Smf, plain_after};
 use std::test::Fail;
 
@@ -62,10 +62,10 @@ fn rows_of_events(rt: HostRuntime) -> Result<(), Fail> {
         for row in rows.lines() {
             let (name, rest) = row.split_once('|').ok_or("no events")?;
             let (events, wanted) = rest.split_once('|').ok_or("no outcome")?;
-            let (seen, smf, events) = outcome(alloc, many, events)?;
+            let (seen, smf, mut events) = outcome(alloc, many, events)?;
             assert_eq!(rt; seen.as_str(), wanted, "{name}");
             if !many {
-                let events = newest_first(alloc, events)?;
+                events.reverse();
                 let machine = plain_after(alloc, &setup(alloc, many)?, &events)?;
                 assert!(rt; agrees(&smf, &machine), "{name}");
             }
@@ -88,7 +88,7 @@ fn drawn_events_go_as_in_the_plain_machine(rt: HostRuntime) -> Result<(), Fail> 
             let _ = taken(alloc, &mut smf, &event);
             events.push(event)?;
         }
-        let events = newest_first(alloc, events)?;
+        events.reverse();
         let machine = plain_after(alloc, &setup(alloc, false)?, &events)?;
         assert!(rt; agrees(&smf, &machine), "seed {seed}");
     }
