@@ -17,6 +17,7 @@ use Rattle.accounts.specs.Ledger.{Numbers, State, numbers, share, from_own, from
 use Rattle.accounts.specs.Moves.{Move, Added, ToppedUp, Charged, Reserved, Released, ReleasedAll, Expired, topped_up, debited, after, state_of, IsAllowed, AreAllowed}
 use Rattle.accounts.specs.Caches.{IsSound}
 use Rattle.accounts.specs.Balanced.{IsBalanced, BooksBalance, TopupsAreSummed, topup_of}
+use Rattle.accounts.specs.Steps.{BalanceStays}
 use Rattle.accounts.proofs.Tables.{exact_keys, same_key, tied_keys, stays}
 use Rattle.accounts.proofs.FinSums.{sum-remove}
 use Rattle.accounts.proofs.Sound.{at_write, sound_topup, sound_charge, sound_add, sound_release, sound_reserve, get_or_push}
@@ -149,6 +150,12 @@ sound_all (m ∷ ms) b allowed = sound_after (state_of ms) m b allowed.0 (sound_
 -- in the words of the clauses
 pub balanced : (s : State) (b : ℕ) → IsSound s b → IsBalanced s b
 balanced s b h = let k = h.balance in let d = h.debits in record { taken = omega arith; sums = omega arith; within = omega arith }
+
+pub sound_from : (s : State) (b : ℕ) → IsBalanced s b → IsSound s b
+sound_from s b h = let taken = h.taken in let sums = h.sums in let within = h.within in record { balance = omega arith; debits = omega arith }
+
+pub balance_stays : BalanceStays
+balance_stays s m b allowed h = balanced (after m s) b (sound_after s m b allowed (sound_from s b h))
 
 pub books_balance : BooksBalance
 books_balance ms b allowed = balanced (state_of ms) b (sound_all ms b allowed)

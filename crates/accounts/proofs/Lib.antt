@@ -11,3 +11,4 @@ pub mod Slow
 pub mod Nearest
 pub mod Stepped
 pub mod Owners
+pub mod Ending

@@ -4,7 +4,7 @@ use Rattle.std.specs.FinMap as map
 use Rattle.accounts.specs.declared.reservation.Key.{Key}
 use Rattle.accounts.specs.Reservations.{at, key_eq}
 use Rattle.accounts.specs.Ledger.{State, free, left}
-use Rattle.accounts.specs.Moves.{Move, Added, ToppedUp, Charged, Reserved, Released, ReleasedAll, Expired, after, state_of}
+use Rattle.accounts.specs.Moves.{Move, Added, ToppedUp, Charged, Reserved, Released, ReleasedAll, Expired, after, state_of, IsAllowed}
 use Rattle.accounts.specs.Balanced.{IsBalanced}
 
 -- all that is free on other accounts, and left of other reservations, stays
@@ -47,6 +47,10 @@ abbrev pub ReleasesGive : Type 0
 ReleasesGive = (s : State) (account session group : ℕ)
     → IfSome (map.get s.reservations (at session group)) (λ r. r.account ≡ account) → IsBalanced s account
     → ReleaseGives s (Released session group) account (at session group)
+
+-- an account stays in balance with each move that is allowed
+abbrev pub BalanceStays : Type 0
+BalanceStays = (s : State) (m : Move) (account : ℕ) → IsAllowed s m → IsBalanced s account → IsBalanced (after m s) account
 
 -- each reservation is of an account that the test allows for its session and rating group
 abbrev pub AreOwned : (Key → ℕ → Bool) → State → Type 0

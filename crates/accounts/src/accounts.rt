@@ -1,4 +1,4 @@
-ghost use Rattle.std.specs.Prelude.{◌≡◌, ◌≤◌, ◌<◌, ◌+◌, ◌-◌, ◌^◌, ℕ, length, IfSome, MatchOption, None, OnOk, OnErr};
+ghost use Rattle.std.specs.Prelude.{◌≡◌, ◌≤◌, ◌<◌, ◌+◌, ◌-◌, ◌^◌, ℕ, length, IfSome, MatchOption, None, OnOk, OnErr, not, ◌==◌};
 ghost use Rattle.std.specs.FinMap as map;
 ghost use Rattle.accounts.specs.Reservations.{at};
 ghost use Rattle.accounts.specs.Endings.{count_ending, IsOneEnding, Session, Until};
@@ -209,6 +209,23 @@ impl Accounts {
             count += 1;
         }
         count
+    }
+
+    /// Gives back what is left of each reservation whose deadline is at most the moment.
+    pub fn release_until(&mut self, moment: Moment)
+        ensures state { self.new.state ≡ after (Expired moment) self.old.state }
+        ensures spare { self.old.spare ≤ self.new.spare }
+    {
+        while let Some(key) = self.one_until(&moment) {
+            self.release(key.session, key.group);
+        }
+    }
+
+    /// Whether the deadline of a reservation is at most the moment, so that something would be given back.
+    pub fn is_due(&self, moment: Moment) -> bool
+        ensures { result ≡ not (count_ending self.now.state.reservations (Until moment) == 0) }
+    {
+        self.one_until(&moment).is_some()
     }
 
     // A reservation of a session, if it has one.

@@ -43,7 +43,7 @@ next_granted r t stamp asks i d old new lt a c e leaves =
     )
 
 -- what is said of it is the next that is told
-after_one : (told : List UnitInfo) (x : UnitInfo) (l : List UnitInfo) → (told ++ x ∷ []) ++ l ≡ told ++ (x ∷ l)
+pub after_one : (told : List UnitInfo) (x : UnitInfo) (l : List UnitInfo) → (told ++ x ∷ []) ++ l ≡ told ++ (x ∷ l)
 after_one [] x l = refl
 after_one (y ∷ told) x l = ap (λ (z : List UnitInfo). y ∷ z) (after_one told x l)
 

@@ -8,3 +8,9 @@ pub mod Clear
 pub mod Granting
 pub mod Owned
 pub mod Keyed
+pub mod NameLists
+pub mod Consumers
+pub mod Few
+pub mod Kept
+pub mod Following
+pub mod Telling

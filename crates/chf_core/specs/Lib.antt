@@ -8,3 +8,11 @@ pub mod Outcomes
 pub mod Laws
 pub mod Admits
 pub mod KeptRequests
+pub mod Named
+pub mod NamesKept
+pub mod KeyTable
+pub mod Machine
+pub mod Cached
+pub mod Caches
+pub mod Trials
+pub mod TrialKept

@@ -38,8 +38,8 @@ fn denied() -> Grant
 }
 
 /// What a group that asks is granted out of free money; a barred group that has a tariff is denied.
-pub fn grant_for(tariffs: &Tariffs, grace: u32, barred: &[u32], free: u128, a: &GroupAsk) -> Grant
-    ensures value { result ≡ granted (rating_by tariffs.now grace barred.now) free a.now }
+pub fn grant_for(tariffs: &Tariffs, barred: &[u32], free: u128, a: &GroupAsk) -> Grant
+    ensures value { (grace : ℕ) → result ≡ granted (rating_by tariffs.now grace barred.now) free a.now }
     ensures covered { result.reserve ≤ free }
 {
     reserves_suffice();
@@ -100,7 +100,7 @@ pub fn reserve_one(
     ensures state { accounts.new.state ≡ with_grant (rating_by tariffs.now grace barred.now) t stamp a.now (granted (rating_by tariffs.now grace barred.now) (free accounts.old.state t.account) a.now) accounts.old.state }
     ensures leaves { Leaves accounts.old accounts.new t 0 1 }
 {
-    let grant = grant_for(tariffs, grace, barred, free_of(accounts, t.account), a);
+    let grant = grant_for(tariffs, barred, free_of(accounts, t.account), a);
     let deadline = deadline_for(tariffs, grace, stamp, a.group);
     set_aside(accounts, t, a.group, grant.reserve, deadline);
 }

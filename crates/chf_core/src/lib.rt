@@ -2,13 +2,20 @@
 #![tactic(auto)]
 
 mod asks;
+mod chf;
 mod command;
+mod commit;
 mod decision;
 mod effect;
+mod fits;
 mod give_back;
 mod grants;
 mod key;
+mod key_table;
 mod laws;
+mod names;
+mod numbered;
+mod operator;
 #[cfg(test)]
 mod plain;
 #[cfg(test)]
@@ -17,12 +24,18 @@ mod plain_accounts;
 mod plain_decision;
 #[cfg(test)]
 mod plain_keys;
+mod plan;
+mod reads;
 mod refusal;
+mod reply;
 mod session;
 mod setup;
 mod subscription;
 mod target;
+mod trial;
+mod verdict;
 
+pub use chf::Chf;
 pub use command::{Command, Outcome};
 pub use decision::{Decision, Plan};
 pub use laws::{numbers_are_used_once, replies_stand};

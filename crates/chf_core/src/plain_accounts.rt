@@ -1,6 +1,5 @@
 //! The accounts after a list of commands, its newest first, worked out anew from the first command on. An Expire is left out.
 ghost use Rattle.std.specs.Prelude.{◌≡◌, ◌<◌, ◌≤◌, ◌^◌, ◌+◌, ◌∷◌, OnOk, IfOk, IfSome, Some, IsTrue, length};
-ghost use Rattle.accounts.specs.Ledger.{numbers};
 ghost use Rattle.accounts.specs.Moves.{after, Added};
 ghost use Rattle.chf_core.specs.Operator.{setup_of, subscription_of, barred_in};
 ghost use Rattle.chf_core.specs.Effect.{used_by, rating_by};
@@ -10,6 +9,7 @@ ghost use Rattle.chf_core.specs.Money.{rates_in, grace_in, supi_in, supi_by, ope
 use crate::asks::asks_of;
 use crate::command::Command;
 use crate::effect::use_request;
+use crate::fits::{containers, cost, may_charge};
 use crate::plain::{
     account_for, account_number, all_sessions, next_reference, session_at, setup_of,
     subscription_of, supi_of,
@@ -119,52 +119,6 @@ pub fn target_of(
             reference,
             session_at(alloc, commands, reference)?,
         )),
-    }
-}
-
-fn cost_used(tariffs: &Tariffs, group: u32, used: &[Used]) -> Option<u128>
-    ensures { IfSome result (λ x. x ≡ cost_used tariffs.now group used.now) }
-{
-    let mut total: u128 = 0;
-    for c in used {
-        total = total.checked_add(tariffs.price(group, c.up, c.down, c.seconds, c.first))?;
-    }
-    Some(total)
-}
-
-fn cost(tariffs: &Tariffs, usage: &[UnitUsage]) -> Option<u128>
-    ensures { IfSome result (λ x. x ≡ cost tariffs.now usage.now) }
-{
-    let mut total: u128 = 0;
-    for entry in usage {
-        total = total.checked_add(cost_used(tariffs, entry.group, entry.used.as_slice())?)?;
-    }
-    Some(total)
-}
-
-fn containers(usage: &[UnitUsage]) -> Option<usize>
-    ensures { IfSome result (λ x. x ≡ containers usage.now) }
-{
-    let mut total: usize = 0;
-    for entry in usage {
-        total = total.checked_add(entry.used.len())?;
-    }
-    Some(total)
-}
-
-fn may_charge(accounts: &Accounts, account: u32, cost: u128) -> bool
-    ensures known { IsTrue result → account < length accounts.now.state.accounts }
-    ensures sums { IsTrue result → (numbers accounts.now.state account).taken + (numbers accounts.now.state account).owed + cost < 2 ^ 127 }
-{
-    let (Some(taken), Some(owed)) = (accounts.taken(account), accounts.owed(account)) else {
-        return false;
-    };
-    match taken.checked_add(owed) {
-        Some(sum) => match sum.checked_add(cost) {
-            Some(all) => all < 170_141_183_460_469_231_731_687_303_715_884_105_728,
-            None => false,
-        },
-        None => false,
     }
 }
 

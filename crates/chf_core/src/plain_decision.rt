@@ -60,7 +60,7 @@ fn tell(
 {
     let mut told = List::new(alloc);
     for a in asks {
-        let grant = grant_for(tariffs, grace, barred, free_of(accounts, t.account), a);
+        let grant = grant_for(tariffs, barred, free_of(accounts, t.account), a);
         told.push(info_for(alloc, tariffs, stamp, a.group, grant))?;
         reserve_one(accounts, tariffs, grace, barred, t, stamp, a);
     }

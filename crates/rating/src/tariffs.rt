@@ -63,6 +63,16 @@ fn read_table(alloc: Global, rows: &[List<Text>]) -> Result<HashMap<u32, Tariff>
 }
 
 impl Tariffs {
+    /// The tariffs of no group; takes no memory.
+    pub fn new(alloc: Global) -> Tariffs
+        ensures { result ≡ [] }
+    {
+        Tariffs {
+            rows: List::new(alloc),
+            table: HashMap::new(alloc),
+        }
+    }
+
     /// The tariffs that rows give. `BadRow` names the first row, counted from 1, that breaks the grammar of rows: a group row is
     /// `group,G,KIND,CHUNK,THRESHOLD,VALIDITY,HOLDING,ACTION`, a price row after it `price,G,HOUR,PU,PD,PS` with ascending hours (this product's own).
     pub fn read(alloc: Global, rows: &List<List<Text>>) -> Result<Tariffs, RatingRefusal>

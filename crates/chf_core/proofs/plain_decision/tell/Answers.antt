@@ -9,7 +9,7 @@ loop-a-preserved c =
     let g = next_granted r c.args.t c.args.stamp c.args.asks.now l.a-index _ l.accounts c.reserve_one.new.accounts c.loop-a-test.true l.invariant.admits l.invariant.clear c.reserve_one.ensures.state c.reserve_one.ensures.leaves in
     record {
       told = one_told r c.args.t c.args.stamp c.args.asks.now l.a-index _ c.args.accounts.now.state l.accounts c.reserve_one.new.accounts l.told c.push.new.self c.free_of.result c.grant_for-grant.result c.info_for.result c.loop-a-test.true
-          l.invariant.told c.free_of.ensures c.grant_for-grant.ensures.value c.info_for.ensures c.in_ok-push.ensures.ok c.reserve_one.ensures.state;
+          l.invariant.told c.free_of.ensures (c.grant_for-grant.ensures.value c.args.grace) c.info_for.ensures c.in_ok-push.ensures.ok c.reserve_one.ensures.state;
       admits = g.0;
       clear = g.1;
     }

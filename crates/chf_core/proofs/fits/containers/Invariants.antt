@@ -1,6 +1,6 @@
 use Rattle.std.proofs.Common.{◌≡◌, ◌+◌, drop}
 use Rattle.chf_core.specs.Admits.{containers}
-use Rattle.chf_core.proofs.plain_accounts.containers.Given as goal
+use Rattle.chf_core.proofs.fits.containers.Given as goal
 
 abbrev pub invariant-loop-entry : goal.invariant-loop-entry
 invariant-loop-entry l = l.total + containers (drop l.entry-index l.usage) ≡ containers l.usage
