@@ -5,6 +5,7 @@ pub mod LineByLine
 pub mod FieldTexts
 pub mod OneRow
 pub mod Begun
+pub mod Bodies
 pub mod Fields
 pub mod Readings
 pub mod Runs

@@ -4,4 +4,8 @@ pub mod MeterRows
 pub mod MeterLines
 pub mod Items
 pub mod Accepted
+pub mod AccountLines
+pub mod Routing
+pub mod Answering
+pub mod Tasks
 pub mod Status

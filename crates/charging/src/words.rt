@@ -1,5 +1,5 @@
-ghost use Rattle.std.specs.Prelude.{◌≡◌, IfSome};
-ghost use Rattle.charging.specs.Words.{AreInRange, meter_words, prices_of};
+ghost use Rattle.std.specs.Prelude.{◌≡◌, IfSome, option_map};
+ghost use Rattle.charging.specs.Words.{AreInRange, IsInRange, alone, meter_words, prices_of, task_of};
 
 use rows::number;
 use units::Text;
@@ -25,15 +25,55 @@ fn three_prices(up: &Text, down: &Text, seconds: &Text) -> Option<Prices>
     })
 }
 
-/// The prices of the command `meter PU PD PS`, where the words are this command's.
-pub fn meter_prices(words: &[Text]) -> Option<Prices>
+/// What the program is told to do.
+#[derive(Clone, Copy, PartialEq, Eq, Debug)]
+pub enum Task {
+    /// To rate usage reports at these prices.
+    Meter { prices: Prices },
+    /// To give the operator's rows to a charging function.
+    Operator,
+    /// To give the operator's rows and messages to a charging function.
+    Answer,
+}
+
+fn meter_words(words: &[Text]) -> Option<Prices>
     ensures value { result ≡ meter_words words.now }
     ensures range { IfSome result AreInRange }
 {
     match words {
-        [command, up, down, seconds] if command.as_str() == "meter" => three_prices(
-            up, down, seconds,
-        ),
+        [up, down, seconds] => three_prices(up, down, seconds),
+        _ => None,
+    }
+}
+
+fn meter(words: &[Text]) -> Option<Task>
+    ensures value { result ≡ option_map Task.Meter (meter_words words.now) }
+    ensures range { IfSome result IsInRange }
+{
+    match meter_words(words) {
+        Some(prices) => Some(Task::Meter { prices }),
+        None => None,
+    }
+}
+
+fn alone(task: Task, words: &[Text]) -> Option<Task>
+    ensures { result ≡ alone task words.now }
+{
+    match words {
+        [] => Some(task),
+        _ => None,
+    }
+}
+
+/// What words give.
+pub fn task(words: &[Text]) -> Option<Task>
+    ensures value { result ≡ task_of words.now }
+    ensures range { IfSome result IsInRange }
+{
+    match words {
+        [command, rest @ ..] if command.as_str() == "meter" => meter(rest),
+        [command, rest @ ..] if command.as_str() == "operator" => alone(Task::Operator, rest),
+        [command, rest @ ..] if command.as_str() == "answer" => alone(Task::Answer, rest),
         _ => None,
     }
 }
