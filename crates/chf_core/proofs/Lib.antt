@@ -14,3 +14,4 @@ pub mod Few
 pub mod Kept
 pub mod Following
 pub mod Telling
+pub mod Charging

@@ -1,5 +1,5 @@
 //! What each command's commit writes. Nothing here takes memory.
-ghost use Rattle.std.specs.Prelude.{◌≡◌, ◌<◌, ◌+◌, ◌-◌, ◌^◌, ◌&&◌, ◌∷◌, IfSome, is_some, Some, cond, length};
+ghost use Rattle.std.specs.Prelude.{◌≡◌, ◌<◌, ◌+◌, ◌-◌, ◌^◌, ◌&&◌, ◌∷◌, IfSome, is_some, option_map, Some, cond, length};
 ghost use Rattle.std.specs.Prelude.{vec_len, vec_capacity, Option, List as ListSeen, ℕ, IsSome, string_bytes};
 ghost use Rattle.std.specs.HashMap.{get_by_text, spare};
 ghost use Rattle.chf_core.specs.declared.key.Name.{Name as NameSeen};
@@ -57,6 +57,17 @@ fn enter_session(sessions: &mut Vec<Session>, request: &Request, new: Option<Ses
         },
         Operation::Update(reference) => write_session(sessions, reference, request.number, true),
         Operation::Release(reference) => write_session(sessions, reference, request.number, false),
+    }
+}
+
+// The reference of a session that is opened.
+fn reference_for(sessions: &[Session], new: &Option<Session>) -> Option<u32>
+    requires { length sessions.now < 2 ^ 32 - 1 }
+    ensures { result ≡ option_map (λ _. length sessions.now + 1) new.now }
+{
+    match new {
+        Some(_) => Some(sessions.len() as u32 + 1),
+        None => None,
     }
 }
 
@@ -245,11 +256,7 @@ impl Chf {
                 &request,
                 &copies.asks,
             );
-            let reference = if copies.session.is_some() {
-                Some(self.sessions.len() as u32 + 1)
-            } else {
-                None
-            };
+            let reference = reference_for(&self.sessions, &copies.session);
             enter_key(
                 &mut self.keyed,
                 &request,

@@ -28,6 +28,7 @@ impl KeyTable {
         ensures places { (k : KeySeen) → kept_place result k ≡ None }
         ensures references { (n : NameSeen) → kept_reference result n ≡ None }
         ensures known { AreKnown result }
+        ensures consumers { result.consumers.list ≡ [] }
     {
         KeyTable {
             consumers: Names::new(alloc),
