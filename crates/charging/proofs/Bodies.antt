@@ -43,4 +43,3 @@ read_body operation body result object other = by (object_in body) refl
     by None e = other (λ value is. let some : object_in body ≡ Some value = object_of_body body value is in absurd (cc))
     by (Some value) e = object value (body_of_object body value e)
 
-pub ruleset bodies = (read_body)

@@ -83,3 +83,7 @@ pub ended_with : (due s r : Status) → (s ≡ due) ⊎ (s ≡ status.OutOfMemor
 ended_with due s r (inl e) (inl x) = inl (x ∙ e)
 ended_with due s r (inr e) (inl x) = inr (x ∙ e)
 ended_with due s r h (inr x) = inr x
+
+-- words give one task
+pub same_task : (told : Option Task) (task mine : Task) → told ≡ Some task → Some mine ≡ told → task ≡ mine
+same_task told task mine a b = cc

@@ -6,6 +6,7 @@ pub mod FieldTexts
 pub mod OneRow
 pub mod Begun
 pub mod Bodies
+pub mod NamesInOrder
 pub mod Fields
 pub mod Readings
 pub mod Runs

@@ -60,9 +60,10 @@ fn accounts_by_name(alloc: Global, chf: &Chf) -> Result<BTreeMap<Name, u32>, Out
 {
     let mut entries = BTreeMap::new(alloc);
     for account in 0..chf.account_total() {
-        if let Some(name) = chf.account_name(account) {
-            entries.insert(Name::from_text(alloc, name)?, account)?;
-        }
+        let Some(name) = chf.account_name(account) else {
+            unreachable!();
+        };
+        entries.insert(Name::from_text(alloc, name)?, account)?;
     }
     Ok(entries)
 }

@@ -38,9 +38,9 @@ fn reference_in(name: &[u8]) -> u32
 fn deed(reference: u32, text: &[u8]) -> Option<Operation>
     ensures { result ≡ deed reference text.now }
 {
-    if text == b"/update" {
+    if text == b"/update".as_slice() {
         Some(Operation::Update(reference))
-    } else if text == b"/release" {
+    } else if text == b"/release".as_slice() {
         Some(Operation::Release(reference))
     } else {
         None
@@ -105,7 +105,6 @@ fn body_problem(
 }
 
 // The request that a body is.
-#[tactic(auto, using(crate::proofs::Bodies::bodies))]
 fn request_in(alloc: Global, operation: Operation, body: &[u8]) -> Result<Request, JsonRefusal>
     ensures { IsOrNoMemory refusal.OutOfMemory result (request_in operation body.now) }
 {

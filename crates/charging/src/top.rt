@@ -15,7 +15,7 @@ use crate::lines::table;
 use crate::meter_rows::{RowsEnd, meter_rows};
 use crate::row_items::operator_items;
 use crate::status::{Status, ended};
-use crate::words::{Prices, Task, task};
+use crate::words::{Prices, Task, read_task};
 use edge::{Counted, ReadEnd, Sink, Source, Stream, read_all, write_all};
 use meter::Meter;
 use std::alloc::Global;
@@ -139,7 +139,7 @@ pub fn charging<S: Source, K: Sink>(
         → ¬ CountRose (S.faults input.old) (S.faults input.new)
         → (result ≡ Status.InputTooLong) ⊎ (result ≡ Status.OutOfMemory) }
 {
-    let Some(task) = task(words.as_slice()) else {
+    let Some(task) = read_task(words.as_slice()) else {
         return ended(alloc, output, Status::Usage);
     };
     match output_of_input(alloc, &task, input) {

@@ -66,7 +66,7 @@ fn alone(task: Task, words: &[Text]) -> Option<Task>
 }
 
 /// What words give.
-pub fn task(words: &[Text]) -> Option<Task>
+pub fn read_task(words: &[Text]) -> Option<Task>
     ensures value { result ≡ task_of words.now }
     ensures range { IfSome result IsInRange }
 {

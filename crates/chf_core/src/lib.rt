@@ -37,7 +37,7 @@ mod verdict;
 
 pub use chf::Chf;
 pub use command::{Command, Outcome};
-pub use decision::{Decision, Plan};
+pub use decision::{Decision, Plan, Verdict};
 pub use laws::{numbers_are_used_once, replies_stand};
 pub use refusal::ChfRefusal;
 pub use setup::ChfSetup;
