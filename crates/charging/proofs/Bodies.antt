@@ -42,4 +42,3 @@ read_body operation body result object other = by (object_in body) refl
     by : (o : Option Data) → object_in body ≡ o → IsOrNoMemory refusal.OutOfMemory result (request_by operation o)
     by None e = other (λ value is. let some : object_in body ≡ Some value = object_of_body body value is in absurd (cc))
     by (Some value) e = object value (body_of_object body value e)
-

@@ -7,6 +7,8 @@ pub mod OneRow
 pub mod Begun
 pub mod Bodies
 pub mod NamesInOrder
+pub mod ClapFaults
+pub mod OtherWords
 pub mod Fields
 pub mod Readings
 pub mod Runs

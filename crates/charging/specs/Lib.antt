@@ -1,4 +1,5 @@
 pub mod Words
+pub mod Parsing
 pub mod Rows
 pub mod MeterRows
 pub mod MeterLines

@@ -75,11 +75,7 @@ fn refusal_reply(alloc: Global, refusal: ChfRefusal) -> Result<Option<Reply>, Al
     }
 }
 
-fn push_refusal(
-    alloc: Global,
-    refusal: ChfRefusal,
-    out: &mut Vec<u8>,
-) -> Result<(), OutOfMemory>
+fn push_refusal(alloc: Global, refusal: ChfRefusal, out: &mut Vec<u8>) -> Result<(), OutOfMemory>
     ensures { OnOk result (out.new.items ≡ out.old.items ++ message_line (refusal_reply refusal)) }
 {
     match refusal_reply(alloc, refusal)? {

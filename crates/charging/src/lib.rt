@@ -10,6 +10,7 @@ mod line_items;
 mod lines;
 mod meter_rows;
 mod name_order;
+mod parsing;
 mod responses;
 mod routing;
 mod row_items;

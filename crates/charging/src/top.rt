@@ -80,11 +80,7 @@ fn output_of_bytes(alloc: Global, task: &Task, bytes: &[u8]) -> Result<Vec<u8>, 
 }
 
 // What a command prints on an input.
-fn output_of_input<S: Source>(
-    alloc: Global,
-    task: &Task,
-    input: &mut S,
-) -> Result<Vec<u8>, Status>
+fn output_of_input<S: Source>(alloc: Global, task: &Task, input: &mut S) -> Result<Vec<u8>, Status>
     requires { IsInRange task.now }
     ensures ok { IfOk result (λ out. IfSome (S.left input.old) (λ bytes. Prints task.now bytes out.items)) }
     ensures end { OnOk result (IsAtEnd (S.left input.new)) }
@@ -139,14 +135,15 @@ pub fn charging<S: Source, K: Sink>(
         → ¬ CountRose (S.faults input.old) (S.faults input.new)
         → (result ≡ Status.InputTooLong) ⊎ (result ≡ Status.OutOfMemory) }
 {
-    let Some(task) = read_task(words.as_slice()) else {
-        return ended(alloc, output, Status::Usage);
-    };
-    match output_of_input(alloc, &task, input) {
-        Ok(out) => match write_all(output, &out) {
-            Ok(()) => Status::Ok,
-            Err(_) => Status::WriteFault,
+    match read_task(alloc, words.as_slice()) {
+        Ok(Some(task)) => match output_of_input(alloc, &task, input) {
+            Ok(out) => match write_all(output, &out) {
+                Ok(()) => Status::Ok,
+                Err(_) => Status::WriteFault,
+            },
+            Err(status) => ended(alloc, output, status),
         },
-        Err(status) => ended(alloc, output, status),
+        Ok(None) => ended(alloc, output, Status::Usage),
+        Err(_) => ended(alloc, output, Status::OutOfMemory),
     }
 }

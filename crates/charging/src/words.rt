@@ -1,8 +1,12 @@
-ghost use Rattle.std.specs.Prelude.{◌≡◌, IfSome, option_map};
-ghost use Rattle.charging.specs.Words.{AreInRange, IsInRange, alone, meter_words, prices_of, task_of};
+ghost use Rattle.std.specs.Prelude.{◌≡◌, IfOk, IfSome, option_map, true};
+ghost use Rattle.std.specs.List.{list_all};
+ghost use Rattle.charging.specs.Parsing.{is_plain};
+ghost use Rattle.charging.specs.Words.{AreInRange, IsInRange, alone, meter_words, prices_of, task_by, task_of};
 
+use crate::parsing::{are_plain, takes_none, takes_three};
 use rows::number;
-use units::Text;
+use std::alloc::Global;
+use units::{OutOfMemory, Text};
 
 /// The price of an octet up, an octet down and a second, in grains, each at most 2^32.
 #[derive(Clone, Copy, PartialEq, Eq, Debug)]
@@ -36,6 +40,7 @@ pub enum Task {
     Answer,
 }
 
+// The prices of the words after `meter`.
 fn meter_words(words: &[Text]) -> Option<Prices>
     ensures value { result ≡ meter_words words.now }
     ensures range { IfSome result AreInRange }
@@ -46,34 +51,72 @@ fn meter_words(words: &[Text]) -> Option<Prices>
     }
 }
 
-fn meter(words: &[Text]) -> Option<Task>
-    ensures value { result ≡ option_map Task.Meter (meter_words words.now) }
-    ensures range { IfSome result IsInRange }
+// What the words after `meter` give.
+#[tactic(auto, using(crate::proofs::OtherWords::other_words))]
+fn meter(alloc: Global, words: &[Text]) -> Result<Option<Task>, OutOfMemory>
+    requires { list_all is_plain words.now ≡ true }
+    ensures value { IfOk result (λ task. task ≡ option_map Task.Meter (meter_words words.now)) }
+    ensures range { IfOk result (λ task. IfSome task IsInRange) }
 {
+    if !takes_three(alloc, words)? {
+        return Ok(None);
+    }
     match meter_words(words) {
-        Some(prices) => Some(Task::Meter { prices }),
-        None => None,
+        Some(prices) => Ok(Some(Task::Meter { prices })),
+        None => Ok(None),
     }
 }
 
-fn alone(task: Task, words: &[Text]) -> Option<Task>
-    ensures { result ≡ alone task words.now }
+// What the words after a command give that takes none.
+#[tactic(auto, using(crate::proofs::OtherWords::other_words))]
+fn alone(alloc: Global, task: Task, words: &[Text]) -> Result<Option<Task>, OutOfMemory>
+    requires { list_all is_plain words.now ≡ true }
+    ensures { IfOk result (λ o. o ≡ alone task words.now) }
 {
-    match words {
-        [] => Some(task),
-        _ => None,
+    if takes_none(alloc, words)? {
+        Ok(Some(task))
+    } else {
+        Ok(None)
+    }
+}
+
+// What a command and the words after it give.
+fn read_plain(alloc: Global, command: &Text, words: &[Text]) -> Result<Option<Task>, OutOfMemory>
+    requires { list_all is_plain words.now ≡ true }
+    ensures value { IfOk result (λ task. task ≡ task_by command.now words.now) }
+    ensures range { IfOk result (λ task. IfSome task IsInRange) }
+{
+    if command.as_str() == "meter" {
+        meter(alloc, words)
+    } else if command.as_str() == "operator" {
+        alone(alloc, Task::Operator, words)
+    } else if command.as_str() == "answer" {
+        alone(alloc, Task::Answer, words)
+    } else {
+        Ok(None)
+    }
+}
+
+// The same, where some of the words may begin with a hyphen.
+#[tactic(auto, using(crate::proofs::OtherWords::other_words))]
+fn read_words(alloc: Global, command: &Text, words: &[Text]) -> Result<Option<Task>, OutOfMemory>
+    ensures value { IfOk result (λ task. task ≡ task_by command.now words.now) }
+    ensures range { IfOk result (λ task. IfSome task IsInRange) }
+{
+    if are_plain(words) {
+        read_plain(alloc, command, words)
+    } else {
+        Ok(None)
     }
 }
 
 /// What words give.
-pub fn read_task(words: &[Text]) -> Option<Task>
-    ensures value { result ≡ task_of words.now }
-    ensures range { IfSome result IsInRange }
+pub fn read_task(alloc: Global, words: &[Text]) -> Result<Option<Task>, OutOfMemory>
+    ensures value { IfOk result (λ task. task ≡ task_of words.now) }
+    ensures range { IfOk result (λ task. IfSome task IsInRange) }
 {
     match words {
-        [command, rest @ ..] if command.as_str() == "meter" => meter(rest),
-        [command, rest @ ..] if command.as_str() == "operator" => alone(Task::Operator, rest),
-        [command, rest @ ..] if command.as_str() == "answer" => alone(Task::Answer, rest),
-        _ => None,
+        [command, rest @ ..] => read_words(alloc, command, rest),
+        [] => Ok(None),
     }
 }

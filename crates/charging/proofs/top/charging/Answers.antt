@@ -7,20 +7,20 @@ use Rattle.charging.proofs.top.charging.Goals as goal
 
 pub returns-in-Ok-write_all-clause-refused : goal.returns-in-Ok-write_all-clause-refused
 returns-in-Ok-write_all-clause-refused g c = λ task bytes row words left bad calm.
-    let mine : Refuses c.in-Some.task bytes row = subst (λ (k : Task). Refuses k bytes row) (same_task _ _ _ words (rw c.as_slice.ensures at c.in-Some.ensures.value)) bad in
-    absurd (refused_prints_nothing c.in-Some.task _ bytes c.in-Ok.out.items row c.in-Ok.ensures.ok left mine)
+    let mine : Refuses c.in-Ok-Some.task bytes row = subst (λ (k : Task). Refuses k bytes row) (same_task _ _ _ words (rw (c.as_slice.ensures, c.in-Ok-Some.field-0-is) at c.in-Ok-Some.ensures.value)) bad in
+    absurd (refused_prints_nothing c.in-Ok-Some.task _ bytes c.in-Ok.out.items row c.in-Ok.ensures.ok left mine)
 
 pub returns-in-Ok-clause-refused : goal.returns-in-Ok-clause-refused
 returns-in-Ok-clause-refused g c = λ task bytes row words left bad calm.
-    let mine : Refuses c.in-Some.task bytes row = subst (λ (k : Task). Refuses k bytes row) (same_task _ _ _ words (rw c.as_slice.ensures at c.in-Some.ensures.value)) bad in
-    absurd (refused_prints_nothing c.in-Some.task _ bytes c.in-Ok.out.items row c.in-Ok.ensures.ok left mine)
+    let mine : Refuses c.in-Ok-Some.task bytes row = subst (λ (k : Task). Refuses k bytes row) (same_task _ _ _ words (rw (c.as_slice.ensures, c.in-Ok-Some.field-0-is) at c.in-Ok-Some.ensures.value)) bad in
+    absurd (refused_prints_nothing c.in-Ok-Some.task _ bytes c.in-Ok.out.items row c.in-Ok.ensures.ok left mine)
 
-pub returns-clause-accepted : goal.returns-clause-accepted
-returns-clause-accepted g c = λ task bytes words left good calm out.
-    let mine : Accepts c.in-Some.task bytes = subst (λ (k : Task). Accepts k bytes) (same_task _ _ _ words (rw c.as_slice.ensures at c.in-Some.ensures.value)) good in
-    ended_with status.Ok c.in-Err.status c.ended-in-Err.result (inr (accepted_ends c.in-Some.task c.in-Err.status _ _ _ bytes c.in-Err.ensures.err left mine calm)) c.ended-in-Err.ensures.status
+pub returns-in-Ok-Some-clause-accepted : goal.returns-in-Ok-Some-clause-accepted
+returns-in-Ok-Some-clause-accepted g c = λ task bytes words left good calm out.
+    let mine : Accepts c.in-Ok-Some.task bytes = subst (λ (k : Task). Accepts k bytes) (same_task _ _ _ words (rw (c.as_slice.ensures, c.in-Ok-Some.field-0-is) at c.in-Ok-Some.ensures.value)) good in
+    ended_with status.Ok c.in-Err-output_of_input.status c.ended.result (inr (accepted_ends c.in-Ok-Some.task c.in-Err-output_of_input.status _ _ _ bytes c.in-Err-output_of_input.ensures.err left mine calm)) c.ended.ensures.status
 
-pub returns-clause-refused : goal.returns-clause-refused
-returns-clause-refused g c = λ task bytes row words left bad calm.
-    let mine : Refuses c.in-Some.task bytes row = subst (λ (k : Task). Refuses k bytes row) (same_task _ _ _ words (rw c.as_slice.ensures at c.in-Some.ensures.value)) bad in
-    ended_with (status.BadInput row) c.in-Err.status c.ended-in-Err.result (refused_ends c.in-Some.task c.in-Err.status _ _ _ bytes row c.in-Err.ensures.err left mine calm) c.ended-in-Err.ensures.status
+pub returns-in-Ok-Some-clause-refused : goal.returns-in-Ok-Some-clause-refused
+returns-in-Ok-Some-clause-refused g c = λ task bytes row words left bad calm.
+    let mine : Refuses c.in-Ok-Some.task bytes row = subst (λ (k : Task). Refuses k bytes row) (same_task _ _ _ words (rw (c.as_slice.ensures, c.in-Ok-Some.field-0-is) at c.in-Ok-Some.ensures.value)) bad in
+    ended_with (status.BadInput row) c.in-Err-output_of_input.status c.ended.result (refused_ends c.in-Ok-Some.task c.in-Err-output_of_input.status _ _ _ bytes row c.in-Err-output_of_input.ensures.err left mine calm) c.ended.ensures.status
