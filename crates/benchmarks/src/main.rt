@@ -4,6 +4,7 @@
 mod account_turns;
 mod draws;
 mod element_turns;
+mod line_turns;
 mod message_turns;
 mod moment_turns;
 mod quota_turns;
@@ -13,6 +14,7 @@ mod table_turns;
 
 use crate::account_turns::charges;
 use crate::element_turns::{hashed_records, read_records, summed_records};
+use crate::line_turns::parsed_lines;
 use crate::message_turns::{
     parsed_values, printed_values, read_requests, request_size, written_replies,
 };
@@ -21,6 +23,7 @@ use crate::quota_turns::turns_of_use;
 use crate::rating_turns::prices;
 use crate::smf_turns::{meter_turns, smf_times, smf_turns};
 use crate::table_turns::table_turns;
+use edge::StreamSource;
 use rows::number;
 use std::alloc::Global;
 use std::process::ExitCode;
@@ -95,6 +98,12 @@ fn print_times(rt: &HostRuntime, sessions: u64, turns: u64) -> io::Result<ExitCo
     }
 }
 
+// The message lines of the input, whose bodies are read as JSON alone.
+fn lines(rt: &HostRuntime) -> Result<Option<u64>, OutOfMemory> {
+    let mut input = StreamSource::new(rt.alloc(), rt.reader())?;
+    parsed_lines(rt.alloc(), &mut input).map(Some)
+}
+
 fn run(rt: &HostRuntime) -> io::Result<ExitCode> {
     let Ok((call, numbers)) = words(rt) else {
         return Ok(ExitCode::from(9));
@@ -102,7 +111,12 @@ fn run(rt: &HostRuntime) -> io::Result<ExitCode> {
     if let ("smf-times", [sessions, turns]) = (call.as_str(), numbers.as_slice()) {
         return print_times(rt, *sessions, *turns);
     }
-    match checksum(rt.alloc(), call.as_str(), numbers.as_slice()) {
+    let found = if call.as_str() == "json-lines" {
+        lines(rt)
+    } else {
+        checksum(rt.alloc(), call.as_str(), numbers.as_slice())
+    };
+    match found {
         Ok(Some(sum)) => {
             println!(rt; "{sum}")?;
             Ok(ExitCode::SUCCESS)

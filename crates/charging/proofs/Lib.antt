@@ -5,6 +5,10 @@ pub mod LineByLine
 pub mod FieldTexts
 pub mod OneRow
 pub mod Begun
+pub mod Bodies
+pub mod NamesInOrder
+pub mod ClapFaults
+pub mod OtherWords
 pub mod Fields
 pub mod Readings
 pub mod Runs

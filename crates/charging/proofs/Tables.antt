@@ -2,7 +2,7 @@
 use Rattle.std.proofs.Common.{length, ◌≤◌, ◌^◌, ◌≡◌, ℕ, List}
 use Rattle.meter.specs.Contents.{AreNumbered, Contents}
 use Rattle.charging.specs.declared.words.Prices.{Prices}
-use Rattle.charging.specs.Status.{IsTable}
+use Rattle.charging.specs.Tasks.{IsTable}
 use Rattle.charging.specs.MeterRows.{IsMetered}
 use Rattle.charging.specs.MeterLines.{table_of}
 

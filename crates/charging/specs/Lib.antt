@@ -1,7 +1,12 @@
 pub mod Words
+pub mod Parsing
 pub mod Rows
 pub mod MeterRows
 pub mod MeterLines
 pub mod Items
 pub mod Accepted
+pub mod AccountLines
+pub mod Routing
+pub mod Answering
+pub mod Tasks
 pub mod Status

@@ -1,15 +1,12 @@
--- How a run of `meter` ends: the cause of each status, and the last line (this product's own).
+-- How a run ends: the cause of each status, and the last line (this product's own).
 use Rattle.std.specs.Prelude.{ℕ, ◌≡◌, ◌^◌, ◌<◌, ◌≤◌, List, [], ◌++◌, length, take, Option, Result, Ok, Err, IfSome, ⊤, codes}
 use Rattle.std.specs.Fmt.{decimal}
 use Rattle.std.specs.Io.KnownBytes.{Appends}
 use Rattle.edge.specs.Faults.{CountRose}
-use Rattle.units.specs.Cut.{AreWidestCuts, whole_hour}
-use Rattle.meter.specs.Contents.{AreNumbered, Contents}
-use Rattle.charging.specs.declared.words.Prices.{Prices}
 use Rattle.charging.specs.declared.status.Status.{Status}
 use Rattle.charging.specs.declared.status.Status.TheVariants as status
-use Rattle.charging.specs.MeterRows.{Comes, reports_from}
-use Rattle.charging.specs.MeterLines.{table_of}
+use Rattle.charging.specs.declared.words.Task.{Task}
+use Rattle.charging.specs.Tasks.{Refuses}
 
 -- the number that the program exits with
 abbrev pub code_of : Status → ℕ
@@ -37,29 +34,15 @@ pub record WritesText (text : List ℕ) (before now : Option (List ℕ)) (faults
   pub written : Appends before now (take count text)
   pub whole : ¬ CountRose faults_before faults_now → length text ≤ count
 
--- the input is not too long, and the meter comes to this outcome over its rows
-pub record Reads (bytes : List ℕ) (outcome : Result Contents ℕ) : Type 0 where
-  pub within : length bytes ≤ 2 ^ 28
-  pub comes : Comes bytes outcome
-
--- the table of an input: the lines of the containers that the meter makes of its rows, numbered from 1, which are the one hourly
--- cut of the rows' reports that the rule for joining makes
-pub record IsTable (prices : Prices) (bytes text : List ℕ) : Type 0 where
-  pub contents : Contents
-  pub reads : Reads bytes (Ok contents)
-  pub cut : AreWidestCuts whole_hour (reports_from 1 reads.comes.rows) contents.containers
-  pub numbered : AreNumbered 1 contents.containers
-  pub text_is : text ≡ table_of prices contents.containers
-
 -- what a status that ends a run before its output says of the input
-abbrev pub EndedBy : Status → Option (List ℕ) → ℕ → ℕ → Type 0
-EndedBy status.Ok left before now = ⊥
-EndedBy status.Usage left before now = ⊥
-EndedBy (status.BadInput row) left before now = IfSome left (λ bytes. Reads bytes (Err row))
-EndedBy status.ReadFault left before now = CountRose before now
-EndedBy status.WriteFault left before now = ⊥
-EndedBy status.OutOfMemory left before now = ⊤
-EndedBy status.InputTooLong left before now = IfSome left (λ bytes. 2 ^ 28 < length bytes)
+abbrev pub EndedBy : Task → Status → Option (List ℕ) → ℕ → ℕ → Type 0
+EndedBy task status.Ok left before now = ⊥
+EndedBy task status.Usage left before now = ⊥
+EndedBy task (status.BadInput row) left before now = IfSome left (λ bytes. Refuses task bytes row)
+EndedBy task status.ReadFault left before now = CountRose before now
+EndedBy task status.WriteFault left before now = ⊥
+EndedBy task status.OutOfMemory left before now = ⊤
+EndedBy task status.InputTooLong left before now = IfSome left (λ bytes. 2 ^ 28 < length bytes)
 
 -- the statuses at which the input was read to its end
 abbrev pub ReadsToEnd : Status → Type 0

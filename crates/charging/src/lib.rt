@@ -2,11 +2,17 @@
 #![tactic(auto)]
 
 mod accepted;
+mod account_lines;
+mod answering;
 mod csv_rows;
 mod item;
 mod line_items;
 mod lines;
 mod meter_rows;
+mod name_order;
+mod parsing;
+mod responses;
+mod routing;
 mod row_items;
 mod status;
 mod top;

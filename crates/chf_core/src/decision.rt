@@ -63,9 +63,9 @@ pub enum Decision {
     Fresh(Plan),
 }
 
-/// A decision before any room was made for it.
+/// A decision before any room was made for it, as definitions speak of it.
 #[derive(PartialEq, Eq, Debug, Drop)]
-pub(crate) enum Verdict {
+pub enum Verdict {
     Kept { place: u32 },
     Known,
     Refused { refusal: ChfRefusal },

@@ -18,14 +18,6 @@ mod laws;
 mod names;
 mod numbered;
 mod operator;
-#[cfg(test)]
-mod plain;
-#[cfg(test)]
-mod plain_accounts;
-#[cfg(test)]
-mod plain_decision;
-#[cfg(test)]
-mod plain_keys;
 mod plan;
 mod reads;
 mod refusal;
@@ -45,7 +37,7 @@ mod words;
 
 pub use chf::Chf;
 pub use command::{Command, Outcome};
-pub use decision::{Decision, Plan};
+pub use decision::{Decision, Plan, Verdict};
 pub use laws::{
     ledger_is_whole, money_balances, numbers_are_used_once, repeats_get_first_replies,
     replies_stand, sums_are_bounded, use_within_grants_owes_nothing,

