@@ -40,7 +40,7 @@ pub use command::{Command, Outcome};
 pub use decision::{Decision, Plan};
 pub use laws::{
     ledger_is_whole, money_balances, numbers_are_used_once, repeats_get_first_replies,
-    replies_stand, sums_are_bounded, use_within_grants_owes_nothing,
+    replies_stand, sums_are_bounded, use_within_grants_owes_nothing, verdicts_suit_commands,
 };
 pub use refusal::ChfRefusal;
 pub use setup::ChfSetup;
