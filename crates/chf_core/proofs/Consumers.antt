@@ -58,17 +58,17 @@ module _ {S : Type 0} where
   pub place_entered : (ns : List (List ℕ)) (m w : HashMap NumberedKey ℕ S) (c : List ℕ) (at : NumberedKey) (place : ℕ) → number_in ns c ≡ Some at.consumer
       → ((k : NumberedKey) → get key_test w k ≡ cond (key_test at k) (Some place) (get key_test m k))
       → (k : Key) → option_and_then (λ n. get key_test w (numbered_key n k)) (number_in ns k.session.consumer)
-          ≡ cond (key_eq (key c at.charging_id at.number) k) (Some place) (option_and_then (λ n. get key_test m (numbered_key n k)) (number_in ns k.session.consumer))
+      ≡ cond (key_eq (key c at.charging_id at.number) k) (Some place) (option_and_then (λ n. get key_test m (numbered_key n k)) (number_in ns k.session.consumer))
   place_entered ns m w c at place e step k =
       entered_one ns c k.session.consumer at.consumer place (λ n. get key_test m (numbered_key n k)) (λ n. get key_test w (numbered_key n k)) (at.charging_id == k.session.charging_id && at.number == k.number) e
-          (λ j. step (numbered_key j k))
+      (λ j. step (numbered_key j k))
       ∙ ap (λ b. cond b (Some place) (option_and_then (λ n. get key_test m (numbered_key n k)) (number_in ns k.session.consumer)))
-          (grouped (name_eq c k.session.consumer) (at.charging_id == k.session.charging_id) (at.number == k.number))
+      (grouped (name_eq c k.session.consumer) (at.charging_id == k.session.charging_id) (at.number == k.number))
 
   pub reference_entered : (ns : List (List ℕ)) (m w : HashMap NumberedName ℕ S) (c : List ℕ) (at : NumberedName) (reference : ℕ) → number_in ns c ≡ Some at.consumer
       → ((k : NumberedName) → get name_test w k ≡ cond (name_test at k) (Some reference) (get name_test m k))
       → (k : Name) → option_and_then (λ n. get name_test w (numbered_name n k)) (number_in ns k.consumer)
-          ≡ cond (same_session (name c at.charging_id) k) (Some reference) (option_and_then (λ n. get name_test m (numbered_name n k)) (number_in ns k.consumer))
+      ≡ cond (same_session (name c at.charging_id) k) (Some reference) (option_and_then (λ n. get name_test m (numbered_name n k)) (number_in ns k.consumer))
   reference_entered ns m w c at reference e step k =
       entered_one ns c k.consumer at.consumer reference (λ n. get name_test m (numbered_name n k)) (λ n. get name_test w (numbered_name n k)) (at.charging_id == k.charging_id) e (λ j. step (numbered_name j k))
 
@@ -77,14 +77,14 @@ module _ {S : Type 0} where
       → ((k : NumberedKey) → IfSome (get key_test m k) (λ _. k.consumer < length ns)) → (k : NumberedKey) → IfSome (get key_test w k) (λ _. k.consumer < length ns)
   key_known ns m w c at place e step old k = subst (λ o. IfSome o (λ _. k.consumer < length ns)) (sym (step k))
       (known_one (key_test at k) place (get key_test m k) (k.consumer < length ns)
-        (λ t. subst (λ n. n < length ns) (same_number at.consumer k.consumer (both (at.consumer == k.consumer) (at.charging_id == k.charging_id && at.number == k.number) t).0) (number_below ns c at.consumer e)) (old k))
+      (λ t. subst (λ n. n < length ns) (same_number at.consumer k.consumer (both (at.consumer == k.consumer) (at.charging_id == k.charging_id && at.number == k.number) t).0) (number_below ns c at.consumer e)) (old k))
 
   pub name_known : (ns : List (List ℕ)) (m w : HashMap NumberedName ℕ S) (c : List ℕ) (at : NumberedName) (reference : ℕ) → number_in ns c ≡ Some at.consumer
       → ((k : NumberedName) → get name_test w k ≡ cond (name_test at k) (Some reference) (get name_test m k))
       → ((k : NumberedName) → IfSome (get name_test m k) (λ _. k.consumer < length ns)) → (k : NumberedName) → IfSome (get name_test w k) (λ _. k.consumer < length ns)
   name_known ns m w c at reference e step old k = subst (λ o. IfSome o (λ _. k.consumer < length ns)) (sym (step k))
       (known_one (name_test at k) reference (get name_test m k) (k.consumer < length ns)
-        (λ t. subst (λ n. n < length ns) (same_number at.consumer k.consumer (both (at.consumer == k.consumer) (at.charging_id == k.charging_id) t).0) (number_below ns c at.consumer e)) (old k))
+      (λ t. subst (λ n. n < length ns) (same_number at.consumer k.consumer (both (at.consumer == k.consumer) (at.charging_id == k.charging_id) t).0) (number_below ns c at.consumer e)) (old k))
 
 -- nothing is kept of a number that no name has
 pub none_past : (n : ℕ) (o : Option ℕ) → IfSome o (λ _. n < n) → o ≡ None

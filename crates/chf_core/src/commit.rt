@@ -190,7 +190,12 @@ impl Chf {
             session: _session,
             asks: _asks,
         } = copies;
-        name_account(&mut self.accounts, &mut self.operator.names, account.as_str(), name);
+        name_account(
+            &mut self.accounts,
+            &mut self.operator.names,
+            account.as_str(),
+            name,
+        );
         put(&mut self.operator.subscribers, key, subscription);
         self.commands.push_reserved(Command::Subscriber {
             supi,

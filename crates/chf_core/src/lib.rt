@@ -2,6 +2,8 @@
 #![tactic(auto)]
 
 mod asks;
+#[cfg(test)]
+mod cases;
 mod chf;
 mod command;
 mod commit;
@@ -16,24 +18,22 @@ mod laws;
 mod names;
 mod numbered;
 mod operator;
-#[cfg(test)]
-mod plain;
-#[cfg(test)]
-mod plain_accounts;
-#[cfg(test)]
-mod plain_decision;
-#[cfg(test)]
-mod plain_keys;
 mod plan;
 mod reads;
 mod refusal;
 mod reply;
+#[cfg(test)]
+mod said;
 mod session;
 mod setup;
+#[cfg(test)]
+mod steps;
 mod subscription;
 mod target;
 mod trial;
 mod verdict;
+#[cfg(test)]
+mod words;
 
 pub use chf::Chf;
 pub use command::{Command, Outcome};

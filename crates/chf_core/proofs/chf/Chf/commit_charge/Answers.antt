@@ -49,18 +49,18 @@ invariant_of-self c =
     let reference = c.reference_for-reference.ensures ∙ (λ i. option_map (λ _. count i + 1) (new i)) in
     rw (c.push_reserved.ensures.items, c.push_reserved-in-Some.ensures.items)
     (kept_more t.commands.items (Charge q) t.outcomes.items c.args.outcome t.operator c.enter_key.new.keyed c.enter_session.new.sessions.items c.use_accounts.new.accounts k.told_are ready.fresh (omega (arith, ready.places))
-        (record { setup = k.operator.setup; none = k.operator.none; names = k.operator.names; subscribers = k.operator.subscribers; topups = k.operator.topups })
-        (record {
-          places = λ j. c.enter_key.ensures.places j ∙ (λ i. cond (is_key (sym own i) j) (Some (place i)) (k.keyed.places j i));
-          references = λ n. c.enter_key.ensures.references n
-              ∙ (λ i. cond (is_some (reference i) && same_session (name q.consumer (id_of q.charging_id)) n) (reference i) (k.keyed.references n i))
-              ∙ opened_one q.operation q (account_for a q.subscriber) (length (sessions a) + 1) (same_session (name q.consumer (id_of q.charging_id)) n) _;
-          known = c.enter_key.ensures.known;
-          consumers = c.enter_key.ensures.consumers ∙ (λ i. with_name (k.keyed.consumers i) q.consumer (number_in (k.keyed.consumers i) q.consumer));
-        })
-        (c.enter_session.ensures (account_for a q.subscriber) new ∙ ap (sessions_after q.operation q (account_for a q.subscriber)) k.sessions)
-        (c.use_accounts.ensures
-        ∙ (λ i. used (rating_by ((c.tariffs.ensures ∙ ap rates_in k.operator.setup) i) ((c.grace.ensures ∙ ap grace_in k.operator.setup) i) ((c.barred.ensures ∙ ap barred_in (k.operator.subscribers _ ∙ ap (subscription_of a) supi)) i)) q (k.money i) (target i))))
+    (record { setup = k.operator.setup; none = k.operator.none; names = k.operator.names; subscribers = k.operator.subscribers; topups = k.operator.topups })
+    (record {
+      places = λ j. c.enter_key.ensures.places j ∙ (λ i. cond (is_key (sym own i) j) (Some (place i)) (k.keyed.places j i));
+      references = λ n. c.enter_key.ensures.references n
+          ∙ (λ i. cond (is_some (reference i) && same_session (name q.consumer (id_of q.charging_id)) n) (reference i) (k.keyed.references n i))
+          ∙ opened_one q.operation q (account_for a q.subscriber) (length (sessions a) + 1) (same_session (name q.consumer (id_of q.charging_id)) n) _;
+      known = c.enter_key.ensures.known;
+      consumers = c.enter_key.ensures.consumers ∙ (λ i. with_name (k.keyed.consumers i) q.consumer (number_in (k.keyed.consumers i) q.consumer));
+    })
+    (c.enter_session.ensures (account_for a q.subscriber) new ∙ ap (sessions_after q.operation q (account_for a q.subscriber)) k.sessions)
+    (c.use_accounts.ensures
+    ∙ (λ i. used (rating_by ((c.tariffs.ensures ∙ ap rates_in k.operator.setup) i) ((c.grace.ensures ∙ ap grace_in k.operator.setup) i) ((c.barred.ensures ∙ ap barred_in (k.operator.subscribers _ ∙ ap (subscription_of a) supi)) i)) q (k.money i) (target i))))
 
 pub reference_for-reference-requires : goal.reference_for-reference-requires
 reference_for-reference-requires c =

@@ -14,5 +14,5 @@ invariant_of-self c =
     let size = length-reverse t.commands.items in
     rw (c.push_reserved.ensures.items, c.push_reserved-2.ensures.items)
     (kept_more t.commands.items (Setup c.args.setup) t.outcomes.items c.args.outcome _ t.keyed t.sessions.items t.accounts k.told_are ready.fresh (omega (arith, ready.places))
-        (record { setup = ready.copied; none = k.operator.none; names = k.operator.names; subscribers = k.operator.subscribers; topups = k.operator.topups })
-        (record { places = k.keyed.places; references = k.keyed.references; known = k.keyed.known; consumers = k.keyed.consumers }) k.sessions k.money)
+    (record { setup = ready.copied; none = k.operator.none; names = k.operator.names; subscribers = k.operator.subscribers; topups = k.operator.topups })
+    (record { places = k.keyed.places; references = k.keyed.references; known = k.keyed.known; consumers = k.keyed.consumers }) k.sessions k.money)

@@ -18,12 +18,12 @@ invariant_of-self c =
     let size = length-reverse t.commands.items in
     rw (c.push_reserved.ensures.items, c.push_reserved-2.ensures.items)
     (kept_more t.commands.items (Subscriber c.args.supi name c.args.barred) t.outcomes.items c.args.outcome _ t.keyed t.sessions.items c.name_account.new.accounts k.told_are ready.fresh (omega (arith, ready.places))
-        (record {
-          setup = k.operator.setup;
-          none = k.operator.none;
-          names = c.name_account.ensures.names ∙ (λ i. with_name (k.operator.names i) (c.as_str.ensures i) (number_in (k.operator.names i) (c.as_str.ensures i)));
-          subscribers = λ x. c.put.ensures x ∙ (λ i. cond (name_eq (ready.copied.0 i) x) (ready.copied.1.0 i) (k.operator.subscribers x i));
-          topups = k.operator.topups;
-        })
-        (record { places = k.keyed.places; references = k.keyed.references; known = k.keyed.known; consumers = k.keyed.consumers }) k.sessions
-        (c.name_account.ensures.accounts ∙ (λ i. with_account (k.money i) (number_in (k.operator.names i) (c.as_str.ensures i)))))
+    (record {
+      setup = k.operator.setup;
+      none = k.operator.none;
+      names = c.name_account.ensures.names ∙ (λ i. with_name (k.operator.names i) (c.as_str.ensures i) (number_in (k.operator.names i) (c.as_str.ensures i)));
+      subscribers = λ x. c.put.ensures x ∙ (λ i. cond (name_eq (ready.copied.0 i) x) (ready.copied.1.0 i) (k.operator.subscribers x i));
+      topups = k.operator.topups;
+    })
+    (record { places = k.keyed.places; references = k.keyed.references; known = k.keyed.known; consumers = k.keyed.consumers }) k.sessions
+    (c.name_account.ensures.accounts ∙ (λ i. with_account (k.money i) (number_in (k.operator.names i) (c.as_str.ensures i)))))

@@ -18,12 +18,12 @@ invariant_of-self c =
     let size = length-reverse t.commands.items in
     rw (c.push_reserved.ensures.items, c.push_reserved-2.ensures.items)
     (kept_more t.commands.items (TopUp c.args.id name c.args.amount) t.outcomes.items c.args.outcome _ t.keyed t.sessions.items c.top_up.new.accounts k.told_are ready.fresh (omega (arith, ready.places))
-        (record {
-          setup = k.operator.setup;
-          none = k.operator.none;
-          names = k.operator.names;
-          subscribers = k.operator.subscribers;
-          topups = λ x. c.put.ensures x ∙ (λ i. cond (name_eq (ready.copied.0 i) x) (ready.copied.1 i) (k.operator.topups x i));
-        })
-        (record { places = k.keyed.places; references = k.keyed.references; known = k.keyed.known; consumers = k.keyed.consumers }) k.sessions
-        (c.top_up.ensures ∙ (λ i. topped (k.money i) c.args.amount ((c.find-number.ensures ∙ (λ j. number_in (k.operator.names j) (c.as_str.ensures j))) i))))
+    (record {
+      setup = k.operator.setup;
+      none = k.operator.none;
+      names = k.operator.names;
+      subscribers = k.operator.subscribers;
+      topups = λ x. c.put.ensures x ∙ (λ i. cond (name_eq (ready.copied.0 i) x) (ready.copied.1 i) (k.operator.topups x i));
+    })
+    (record { places = k.keyed.places; references = k.keyed.references; known = k.keyed.known; consumers = k.keyed.consumers }) k.sessions
+    (c.top_up.ensures ∙ (λ i. topped (k.money i) c.args.amount ((c.find-number.ensures ∙ (λ j. number_in (k.operator.names j) (c.as_str.ensures j))) i))))

@@ -18,4 +18,4 @@ returns c = λ s lsn f.
     let now = c.saturating_sub-self.ensures ∙ ap (λ n. v.free - n) c.saturating_sub.ensures in
     subst (λ n. Follows n next t (after (Charged t.account t.session c.args.group lsn c.args.amount) s)) (sym now)
     (charge_follows c.moves_change_free.ensures.charge c.moves_change_free.ensures.balance v.free (left_in v c.args.accounts.now.state t) next t s c.args.group lsn c.args.amount c.left-left.result c.left-left.ensures
-        (λ g. ap (λ o. unwrap_or o (own g)) (c.in_ok-insert.ensures.updates.0 g) ∙ written (nat_eq c.args.group g) _ (own g) (get nat_eq v.lefts g) ∙ ap (λ n. cond (nat_eq c.args.group g) n (left_in v c.args.accounts.now.state t g)) rest) f)
+    (λ g. ap (λ o. unwrap_or o (own g)) (c.in_ok-insert.ensures.updates.0 g) ∙ written (nat_eq c.args.group g) _ (own g) (get nat_eq v.lefts g) ∙ ap (λ n. cond (nat_eq c.args.group g) n (left_in v c.args.accounts.now.state t g)) rest) f)

@@ -21,6 +21,6 @@ loop-c-preserved c = λ s h.
       (
         c.in_ok-charge.ensures z.0 u.lsn z.1.0,
         ap (λ x. charged_used rates t c.args.group (drop (l.c-index + 1) c.args.used.now) (after (Charged t.account t.session c.args.group u.lsn x) z.0)) c.price-amount.ensures
-        ∙ ap (λ (xs : List Used). charged_used rates t c.args.group xs z.0) (sym n) ∙ z.1.1,
+            ∙ ap (λ (xs : List Used). charged_used rates t c.args.group xs z.0) (sym n) ∙ z.1.1,
       ),
     )

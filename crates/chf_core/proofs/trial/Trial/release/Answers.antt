@@ -17,4 +17,4 @@ returns c = λ s f.
     let now : c.in-Some.free ≡ v.free + c.left-left.result = search rules in
     subst (λ n. Follows n next t (after (Released t.session c.args.group) s)) (sym now)
     (release_follows c.moves_change_free.ensures.release c.moves_change_free.ensures.balance v.free (left_in v c.args.accounts.now.state t) next t s c.args.group c.left-left.result c.left-left.ensures
-        (λ g. ap (λ o. unwrap_or o (own g)) (c.in_ok-insert.ensures.updates.0 g) ∙ written (nat_eq c.args.group g) _ (own g) (get nat_eq v.lefts g)) f)
+    (λ g. ap (λ o. unwrap_or o (own g)) (c.in_ok-insert.ensures.updates.0 g) ∙ written (nat_eq c.args.group g) _ (own g) (get nat_eq v.lefts g)) f)
