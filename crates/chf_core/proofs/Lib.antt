@@ -23,3 +23,4 @@ mod HeldGrant
 mod WithinGrants
 mod Bounded
 mod FirstReplies
+mod Suits

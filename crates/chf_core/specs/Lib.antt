@@ -21,3 +21,4 @@ pub mod Ledger
 pub mod MoneyLaws
 pub mod WithinGrant
 pub mod Bounds
+pub mod Verdicts

@@ -4,6 +4,7 @@ ghost use Rattle.chf_core.specs.Laws.{FirstOutcomes, FreshAreKept, KeptForGood};
 ghost use Rattle.chf_core.specs.MoneyLaws.{AccountsAreMoved, AccountsBalance, TopupsAreAdded, LedgerIsWhole};
 ghost use Rattle.chf_core.specs.WithinGrant.{UseWithinGrantsOwesNothing};
 ghost use Rattle.chf_core.specs.Bounds.{SumsAreBounded};
+ghost use Rattle.chf_core.specs.Verdicts.{VerdictsSuitCommands};
 
 /// A law of all lists of commands; it does nothing. The outcome at a place is the one that its command has from the commands before it; a
 /// request that is kept stays kept at its place, whatever fresh command comes (TS 32.290, 5.3.2; this product's own).
@@ -17,6 +18,12 @@ pub fn replies_stand()
 /// request of its content (TS 32.290, 5.3.2; keeping first replies is this product's own).
 pub fn repeats_get_first_replies()
     ensures { RepeatsGetFirstReplies }
+{}
+
+/// A law of all lists of commands; it does nothing. Each request is answered by a reply that was kept, a refusal of requests or a new reply, and
+/// each operator's command is known, refused as a top-up, or done (TS 32.290, 5.3.2; this product's own).
+pub fn verdicts_suit_commands()
+    ensures { VerdictsSuitCommands }
 {}
 
 /// A law of all lists of commands, each of which was fresh at its place; it does nothing. No two kept requests of a session have one number,

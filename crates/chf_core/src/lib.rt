@@ -18,6 +18,14 @@ mod laws;
 mod names;
 mod numbered;
 mod operator;
+#[cfg(test)]
+mod plain;
+#[cfg(test)]
+mod plain_accounts;
+#[cfg(test)]
+mod plain_decision;
+#[cfg(test)]
+mod plain_keys;
 mod plan;
 mod reads;
 mod refusal;
@@ -40,7 +48,7 @@ pub use command::{Command, Outcome};
 pub use decision::{Decision, Plan, Verdict};
 pub use laws::{
     ledger_is_whole, money_balances, numbers_are_used_once, repeats_get_first_replies,
-    replies_stand, sums_are_bounded, use_within_grants_owes_nothing,
+    replies_stand, sums_are_bounded, use_within_grants_owes_nothing, verdicts_suit_commands,
 };
 pub use refusal::ChfRefusal;
 pub use setup::ChfSetup;
