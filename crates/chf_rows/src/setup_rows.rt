@@ -63,11 +63,7 @@ fn ending(tariff: usize, rows: &[List<Text>]) -> Result<Limits, usize>
     }
 }
 
-fn with_tariff(
-    tariff: usize,
-    bad: Option<u32>,
-    end: Result<Limits, usize>,
-) -> Result<Limits, usize>
+fn with_tariff(tariff: usize, bad: Option<u32>, end: Result<Limits, usize>) -> Result<Limits, usize>
     requires { tariff < 2 ^ 63 }
     ensures { result ≡ with_tariff tariff bad end }
 {

@@ -21,4 +21,4 @@ loop-group-preserved c =
     let more = next_group c.loop-group.rest.now c.piece_length-count.result c.in-Some.group c.piece_length-count.ensures.value (omega arith) (search rules) in
     let pushed : c.push.new.self ≡ c.loop-group.groups ++ c.in-Some.group ∷ [] = search rules in
     rw (take_rest c.loop-group.rest.now (c.piece_length-count.result + 1), pushed)
-        (c.loop-group.invariant ∙ ap (more_groups c.loop-group.groups) more ∙ one_more c.loop-group.groups c.in-Some.group (groups_in (pieces 32 (drop (c.piece_length-count.result + 1) c.loop-group.rest.now))))
+    (c.loop-group.invariant ∙ ap (more_groups c.loop-group.groups) more ∙ one_more c.loop-group.groups c.in-Some.group (groups_in (pieces 32 (drop (c.piece_length-count.result + 1) c.loop-group.rest.now))))
