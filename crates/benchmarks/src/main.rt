@@ -89,13 +89,12 @@ fn checksum(alloc: Global, call: &str, numbers: &[u64]) -> Result<Option<u64>, O
 
 // The times of reports to the SMF's machine, by the clock: of the first thousand, of all, and of the last thousand.
 fn print_times(rt: &HostRuntime, sessions: u64, turns: u64) -> io::Result<ExitCode> {
-    match smf_times(rt, sessions, turns)? {
-        Some([first, all, last]) => {
-            println!(rt; "{first} {all} {last}")?;
-            Ok(ExitCode::SUCCESS)
-        }
-        None => Ok(ExitCode::from(9)),
-    }
+    let Some(times) = smf_times(rt, sessions, turns)? else {
+        return Ok(ExitCode::from(9));
+    };
+    let [first, all, last] = times;
+    println!(rt; "{first} {all} {last}")?;
+    Ok(ExitCode::SUCCESS)
 }
 
 // The message lines of the input, whose bodies are read as JSON alone.

@@ -9,7 +9,7 @@ use units::{
     TriggerType, UnitInfo,
 };
 
-const ATTACHED: u64 = 1_767_323_045;
+const ATTACHED: u32 = 1_767_323_045;
 
 fn setup(alloc: Global) -> Result<SmfSetup, OutOfMemory> {
     Ok(SmfSetup {
@@ -25,7 +25,9 @@ fn setup(alloc: Global) -> Result<SmfSetup, OutOfMemory> {
 }
 
 fn at(seconds: u64) -> Moment {
-    Moment::first().plus(ATTACHED).plus(seconds.min(1 << 30))
+    Moment::first()
+        .plus(ATTACHED)
+        .plus(u32::try_from(seconds).unwrap_or(u32::MAX))
 }
 
 // A step of the machine, where its event is not refused.

@@ -1,5 +1,5 @@
 -- The setup and what follows it.
-use Rattle.std.proofs.Common.{◌≡◌, ◌≢◌, ◌⊎◌, inl, inr, ℕ, List, [], ◌∷◌, refl, sym, ap, ◌∙◌, Option, Some, None, Result, Ok, Err}
+use Rattle.std.proofs.Common.{◌≡◌, ◌≢◌, ◌⊎◌, inl, inr, ℕ, List, [], ◌∷◌, refl, sym, ap, ◌∙◌, Result, Ok, Err}
 use Rattle.chf_core.specs.declared.setup.ChfSetup.{ChfSetup}
 use Rattle.chf_rows.specs.declared.refusal.SetupRefusal.{SetupRefusal}
 use Rattle.chf_rows.specs.declared.refusal.SetupRefusal.TheVariants.{BadRow, OutOfMemory}

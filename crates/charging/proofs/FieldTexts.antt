@@ -1,11 +1,10 @@
 -- The fields of a row, one after another.
-use Rattle.std.proofs.Common.{◌≡◌, ◌<◌, ◌≤◌, ◌+◌, ℕ, suc, zero, Bool, true, false, List, [], ◌∷◌, ◌++◌, length, take, drop, refl, sym, ap, ◌∙◌, Option, Some, None, arith, add-one, if◌then◌else◌, ◌&&◌}
+use Rattle.std.proofs.Common.{◌≡◌, ◌<◌, ◌≤◌, ℕ, suc, zero, Bool, true, false, List, [], ◌∷◌, ◌++◌, length, take, drop, refl, ap, ◌∙◌, Option, Some, None, arith, if◌then◌else◌, ◌&&◌}
 use Rattle.std.specs.List.{list_all}
 use Rattle.std.specs.Str.{is_utf8}
 use Rattle.std.proofs.lemmas.List.{drop_all, take_all}
 use Rattle.csv.specs.Records.{field_at}
-use Rattle.charging.specs.declared.item.Item.{Item}
-use Rattle.charging.specs.declared.item.Item.TheVariants.{Blank, Row, Message, Bad}
+use Rattle.charging.specs.declared.item.Item.TheVariants.{Row, Bad}
 use Rattle.charging.specs.Items.{row_item}
 
 -- a field that is there is the next one

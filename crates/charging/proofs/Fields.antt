@@ -1,8 +1,7 @@
 -- The four fields of a row.
-use Rattle.std.proofs.Common.{◌≡◌, ◌≢◌, ℕ, List, [], ◌∷◌, length, refl, sym, ◌∙◌, ap, rules, arith, Option, Some, None}
+use Rattle.std.proofs.Common.{◌≡◌, ◌≢◌, ℕ, List, [], ◌∷◌, length, refl, arith, Some, None}
 use Rattle.csv.specs.Records.{field_at}
 use Rattle.csv.proofs.RecordFacts.{field-there}
-use Rattle.units.specs.declared.report.Report.{Report}
 use Rattle.charging.specs.MeterRows.{report_from, report_of}
 
 -- a row of another number of fields gives no report

@@ -15,3 +15,4 @@ pub mod Runs
 pub mod Tables
 pub mod Ranges
 pub mod Causes
+pub mod Answered

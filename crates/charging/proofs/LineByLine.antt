@@ -1,9 +1,8 @@
 -- Lines, one after another.
-use Rattle.std.proofs.Common.{◌≡◌, ◌<◌, ◌≤◌, ◌+◌, ℕ, List, [], ◌∷◌, ◌++◌, length, take, drop, map, refl, sym, ap, ◌∙◌, arith}
+use Rattle.std.proofs.Common.{◌≡◌, ◌<◌, ◌≤◌, ◌+◌, ℕ, List, [], ◌∷◌, length, take, drop, map, refl, arith}
 use Rattle.std.proofs.lemmas.List.{take_all}
 use Rattle.chf_rows.specs.Pieces.{piece_length, pieces}
 use Rattle.chf_rows.proofs.Split.{first_piece, last_piece}
-use Rattle.charging.specs.declared.item.Item.{Item}
 use Rattle.charging.specs.Items.{line_item}
 
 -- the last line

@@ -1,11 +1,10 @@
 -- A line that is one row.
-use Rattle.std.proofs.Common.{◌≡◌, ℕ, List, [], ◌∷◌, refl, sym, ap, ◌∙◌, Option, Some, None}
+use Rattle.std.proofs.Common.{◌≡◌, ℕ, List, [], ◌∷◌, refl, sym, ap, ◌∙◌, Some, None}
 use Rattle.csv.specs.Machine.{Read, next_record}
-use Rattle.csv.specs.Reading.{AreRecords, Reached, default_config, records, strip_bom}
+use Rattle.csv.specs.Reading.{Reached, default_config, strip_bom}
 use Rattle.csv.specs.declared.parser.State.TheVariants as st
-use Rattle.charging.specs.declared.item.Item.{Item}
 use Rattle.charging.specs.declared.item.Item.TheVariants.{Bad}
-use Rattle.charging.specs.Items.{only_row, row_item, rows_in}
+use Rattle.charging.specs.Items.{only_row, rows_in}
 use Rattle.charging.proofs.Readings.{first_record, some_rows}
 use Rattle.charging.proofs.Whole.{are_records}
 

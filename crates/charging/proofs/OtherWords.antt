@@ -1,15 +1,15 @@
 -- Words that are no command's.
-use Rattle.std.proofs.Common.{◌≡◌, ◌≢◌, ◌==◌, ◌&&◌, ℕ, Bool, true, false, not, List, [], ◌∷◌, length, refl, sym, subst, ap, ◌∙◌, Option, Some, None, if◌then◌else◌, nat_eq, arith, codes, ◌^◌}
+use Rattle.std.proofs.Common.{◌≡◌, ◌≢◌, ◌==◌, ◌&&◌, ℕ, Bool, true, false, not, List, [], ◌∷◌, length, refl, sym, subst, Option, Some, None, if◌then◌else◌, arith, codes, ◌^◌}
 use Rattle.std.specs.List.{list_all}
-use Rattle.std.specs.Option.{option_and_then, option_map}
+use Rattle.std.specs.Option.{option_and_then}
 use Rattle.std.specs.Str.{bytes_eq}
 use Rattle.std.proofs.lemmas.Bool.Decides.{nat_tests}
 use Rattle.rows.specs.Number.{number_of}
 use Rattle.charging.specs.declared.words.Prices.{Prices}
 use Rattle.charging.specs.declared.words.Task.{Task}
-use Rattle.charging.specs.declared.words.Task.TheVariants.{Meter, Operator, Answer}
+use Rattle.charging.specs.declared.words.Task.TheVariants.{Operator, Answer}
 use Rattle.charging.specs.Parsing.{is_plain}
-use Rattle.charging.specs.Words.{alone, meter_words, prices_of, task_by, task_of}
+use Rattle.charging.specs.Words.{alone, meter_words, prices_of, task_by}
 
 -- `meter` takes three words
 pub not_three : (words : List (List ℕ)) → length words ≢ 3 → meter_words words ≡ None

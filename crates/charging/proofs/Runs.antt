@@ -1,5 +1,5 @@
 -- One row more of a run.
-use Rattle.std.proofs.Common.{append_assoc, subst, ◌++◌, ◌≡◌, ◌≢◌, ℕ, ◌+◌, List, [], ◌∷◌, refl, sym, ◌∙◌, ap, Option, Some, None, Result, Ok, Err}
+use Rattle.std.proofs.Common.{append_assoc, subst, ◌++◌, ◌≡◌, ◌≢◌, ℕ, ◌+◌, List, [], ◌∷◌, refl, sym, ◌∙◌, ap, Some, None, Result, Ok, Err}
 use Rattle.std.proofs.lemmas.List.{append-nil}
 use Rattle.csv.specs.Machine.{Read, next_record}
 use Rattle.csv.specs.Reading.{AreRecords, default_config, strip_bom}
@@ -14,7 +14,7 @@ use Rattle.meter.specs.Admission.{answer_of}
 use Rattle.meter.specs.Contents.{Contents, IsUndisturbed, nothing_yet}
 use Rattle.meter.specs.Joining.{after_report}
 use Rattle.charging.specs.Rows.{AreRows}
-use Rattle.charging.specs.MeterRows.{Comes, IsMetered, if_new, or_bad_row, outcome_from, report_of, reports_from, with_report}
+use Rattle.charging.specs.MeterRows.{Comes, IsMetered, if_new, outcome_from, report_of, reports_from, with_report}
 use Rattle.charging.proofs.Readings.{first_record, no_record, some_rows}
 
 pub row_taken : (n : ℕ) (contents : Contents) (row : List (List ℕ)) (rest : List (List (List ℕ))) (report : Report) → report_of n row ≡ Some report → answer_of contents report ≡ Ok New → outcome_from n contents (row ∷ rest) ≡ outcome_from (n + 1) (after_report contents report) rest

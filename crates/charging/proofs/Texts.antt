@@ -1,5 +1,5 @@
 -- A text that is written, or some of it.
-use Rattle.std.proofs.Common.{◌≡◌, ℕ, ◌≤◌, List, length, take, Option, Result, Ok, Err, OnOk, OnErr, arith}
+use Rattle.std.proofs.Common.{ℕ, ◌≤◌, List, length, take, Option, Result, Ok, Err, OnOk, OnErr, arith}
 use Rattle.std.proofs.Math.Seq.{take-length}
 use Rattle.std.specs.Io.KnownBytes.{Appends}
 use Rattle.edge.specs.Faults.{FailsOnlyWithFault}

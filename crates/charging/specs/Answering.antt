@@ -1,12 +1,11 @@
 -- What a run prints: a line for each operator's row and each message, then the account lines (this product's own).
-use Rattle.std.specs.Prelude.{ℕ, ◌+◌, List, [], ◌∷◌, ◌++◌, reverse, Option, Some, None, Result, Ok, Err, codes}
-use Rattle.std.specs.List.{flat_map}
+use Rattle.std.specs.Prelude.{ℕ, List, [], ◌∷◌, ◌++◌, Option, Some, None, Result, Ok, Err, codes}
 use Rattle.std.specs.Fmt.{decimal}
 use Rattle.units.specs.declared.reply.Reply.{Reply}
 use Rattle.units.specs.declared.request.Request.{Request}
 use Rattle.charging_json.specs.ReplyWritten.{location_of, reply_text, status_of}
 use Rattle.chf_core.specs.declared.command.Command.{Command}
-use Rattle.chf_core.specs.declared.command.Command.TheVariants.{Charge, Setup}
+use Rattle.chf_core.specs.declared.command.Command.TheVariants.{Charge}
 use Rattle.chf_core.specs.declared.command.Outcome.{Outcome}
 use Rattle.chf_core.specs.declared.command.Outcome.TheVariants as outcome
 use Rattle.chf_core.specs.declared.decision.Verdict.{Verdict}

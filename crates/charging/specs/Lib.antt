@@ -8,5 +8,6 @@ pub mod Accepted
 pub mod AccountLines
 pub mod Routing
 pub mod Answering
+pub mod Laws
 pub mod Tasks
 pub mod Status

@@ -1,7 +1,7 @@
 -- The rows of an input: what `csv` reads with its defaults, without a header row and with any number of fields (RFC 4180 in the csv crate's profile).
-use Rattle.std.specs.Prelude.{ℕ, ◌≡◌, true, Bool, List, Option, Some}
+use Rattle.std.specs.Prelude.{ℕ, ◌≡◌, List, Some}
 use Rattle.std.proofs.Common.{Bor}
-use Rattle.csv.specs.Reading.{AreRecords, Ready, default_config, has_failed, source_of, strip_bom, reader_config, reader_state, reader_trim}
+use Rattle.csv.specs.Reading.{AreRecords, Ready, default_config, source_of, strip_bom, reader_config, reader_state, reader_trim}
 use Rattle.csv.specs.declared.parser.State.{State}
 use Rattle.csv.specs.declared.parser.State.TheVariants as st
 use Rattle.csv.specs.declared.reader.Reader.{Reader}

@@ -6,6 +6,7 @@ mod account_lines;
 mod answering;
 mod csv_rows;
 mod item;
+mod laws;
 mod line_items;
 mod lines;
 mod meter_rows;
@@ -18,6 +19,7 @@ mod status;
 mod top;
 mod words;
 
+pub use laws::each_message_is_answered;
 pub use status::Status;
 pub use top::charging;
 

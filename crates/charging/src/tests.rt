@@ -18,6 +18,8 @@ struct Case {
 
 const ROWS: &[u8] = b"3600,10,20,5\n3700,1,1,1\n7200,5,0,2\n";
 
+const SETUP: &[u8] = b"limits,0,0,0,0,60,chf1,FAILOVER_SUPPORTED\nsubscriber,imsi-1,a1,\n";
+
 const METER: &[&str] = &["meter", "1", "2", "0"];
 
 const TABLE: &[u8] = b"1,3600,3700,11,21,6,53\n2,7200,7200,5,0,2,5\ntotal,58\n";
@@ -102,6 +104,25 @@ fn ends_as_the_devices_allow(rt: HostRuntime) -> Result<(), Fail> {
             room: 5,
             status: Status::BadInput { row: 1 },
             output: b"error",
+        },
+        // the commands of the charging function
+        Case {
+            words: &["operator"],
+            input: SETUP,
+            reads: &[],
+            writes: &[],
+            room: 100,
+            status: Status::Ok,
+            output: b"ok\naccount,a1,0,0,0,0,0\n",
+        },
+        Case {
+            words: &["answer"],
+            input: SETUP,
+            reads: &[2],
+            writes: &[],
+            room: 100,
+            status: Status::ReadFault,
+            output: b"error: read fault\n",
         },
         // words that are no command's read nothing
         Case {

@@ -1,4 +1,4 @@
-use Rattle.std.proofs.Common.{◌≡◌, ◌≢◌, ◌-◌, ◌∙◌, ℕ, [], Ok, Err, ap, sym, rules, refl, arith}
+use Rattle.std.proofs.Common.{◌≡◌, ◌≢◌, ◌-◌, ◌∙◌, [], Ok, Err, ap, sym, rules, arith}
 use Rattle.chf_rows.specs.Setup.{setup_answer}
 use Rattle.charging.specs.Accepted.{number_at, outcome, setup_rows}
 use Rattle.charging.proofs.Begun.{named_ok, named_row, outcome_by}

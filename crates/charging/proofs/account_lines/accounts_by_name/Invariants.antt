@@ -1,4 +1,4 @@
-use Rattle.std.proofs.Common.{◌≡◌, ◌≤◌, drop, length, reverse}
+use Rattle.std.proofs.Common.{◌≡◌, drop, reverse}
 use Rattle.chf_core.specs.Operator.{account_names}
 use Rattle.charging.specs.AccountLines.{accounts_by_name, in_order}
 use Rattle.charging.proofs.account_lines.accounts_by_name.Given as goal

@@ -1,4 +1,4 @@
-use Rattle.std.proofs.Common.{◌≡◌, ◌+◌, ◌∙◌, ◌++◌, ◌∷◌, [], ℕ, length, drop, take, map, ap, sym, arith, rules, append_assoc}
+use Rattle.std.proofs.Common.{◌≡◌, ◌+◌, ◌∙◌, ◌++◌, ◌∷◌, [], drop, take, map, ap, sym, arith, rules, append_assoc}
 use Rattle.std.proofs.lemmas.List.{take_rest}
 use Rattle.chf_rows.specs.Pieces.{pieces}
 use Rattle.charging.specs.Items.{line_item}

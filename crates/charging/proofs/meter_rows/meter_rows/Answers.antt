@@ -1,4 +1,4 @@
-use Rattle.std.proofs.Common.{subst, ◌++◌, ◌∷◌, [], ◌≡◌, ◌≢◌, ◌∙◌, ℕ, ◌+◌, ap, sym, rules, arith, true, false, Ok, Err, Some, None}
+use Rattle.std.proofs.Common.{subst, ◌++◌, ◌∷◌, [], ◌≡◌, ◌≢◌, ◌∙◌, ◌+◌, ap, sym, rules, arith, true, false, Ok, Err, Some, None}
 use Rattle.csv.specs.Reading.{strip_bom}
 use Rattle.csv.specs.declared.parser.State.TheVariants as st
 use Rattle.units.specs.Cut.{AreWidestCuts, whole_hour}

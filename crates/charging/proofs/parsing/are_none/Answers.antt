@@ -1,7 +1,5 @@
-use Rattle.std.proofs.Common.{◌≡◌, ℕ, List, map, Bor, refl, sym, true, false}
-use Rattle.std.specs.List.{list_all}
+use Rattle.std.proofs.Common.{◌≡◌, ℕ, List, map, Bor, refl, true, false}
 use Rattle.clap.specs.Words.{app_of, kind_of}
-use Rattle.charging.specs.Parsing.{is_plain}
 use Rattle.charging.proofs.ClapFaults.{none_ok, none_err}
 use Rattle.charging.proofs.parsing.are_none.Goals as goal
 

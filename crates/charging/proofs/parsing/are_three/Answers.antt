@@ -1,7 +1,5 @@
-use Rattle.std.proofs.Common.{◌≡◌, ℕ, List, map, Bor, refl, sym, true, false}
-use Rattle.std.specs.List.{list_all}
+use Rattle.std.proofs.Common.{◌≡◌, ℕ, List, map, Bor, refl, true, false}
 use Rattle.clap.specs.Words.{app_of, kind_of}
-use Rattle.charging.specs.Parsing.{is_plain}
 use Rattle.charging.proofs.ClapFaults.{three_ok, three_err}
 use Rattle.charging.proofs.parsing.are_three.Goals as goal
 

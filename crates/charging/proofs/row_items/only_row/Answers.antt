@@ -1,7 +1,7 @@
-use Rattle.std.proofs.Common.{◌≡◌, ◌∙◌, ap, sym, rules, refl, true, false, Ok}
+use Rattle.std.proofs.Common.{◌≡◌, ap, sym, rules, true, false, Ok}
 use Rattle.csv.specs.Reading.{strip_bom}
 use Rattle.csv.specs.declared.parser.State.TheVariants as st
-use Rattle.charging.specs.Items.{only_row, row_item}
+use Rattle.charging.specs.Items.{only_row}
 use Rattle.charging.proofs.OneRow.{no_row, one_row, two_rows}
 use Rattle.charging.proofs.row_items.only_row.Goals as goal
 

@@ -1,4 +1,4 @@
-use Rattle.std.proofs.Common.{◌≡◌, ◌<◌, ◌+◌, ◌∙◌, ◌++◌, ◌∷◌, [], ℕ, suc, Bool, true, false, Some, None, length, drop, take, ap, sym, arith, rules, refl, add-one}
+use Rattle.std.proofs.Common.{◌≡◌, ◌∙◌, ◌++◌, ◌∷◌, [], take, ap, sym, arith, rules, add-one}
 use Rattle.std.specs.Str.{is_utf8}
 use Rattle.csv.specs.Records.{fields_of}
 use Rattle.charging.proofs.FieldTexts.{all_fields, bad_field, good_field, next_field, no_text, past_fields, some_text}

@@ -1,4 +1,4 @@
-use Rattle.std.proofs.Common.{◌≡◌, inr, subst, sym, Some}
+use Rattle.std.proofs.Common.{inr, subst}
 use Rattle.charging.specs.declared.status.Status.TheVariants as status
 use Rattle.charging.specs.declared.words.Task.{Task}
 use Rattle.charging.specs.Tasks.{Accepts, Refuses}

@@ -1,4 +1,4 @@
-use Rattle.std.proofs.Common.{◌≡◌, ◌<◌, ◌+◌, ◌∙◌, ◌++◌, ◌∷◌, [], ℕ, List, Some, None, length, option_map, drop, take, ap, sym, subst, arith, rules, refl}
+use Rattle.std.proofs.Common.{◌≡◌, ◌+◌, ◌∙◌, ◌++◌, ◌∷◌, [], Some, drop, ap, sym, arith, rules}
 use Rattle.std.proofs.lemmas.List.{take_rest}
 use Rattle.chf_rows.specs.OperatorRow.{groups_in}
 use Rattle.chf_rows.specs.Pieces.{pieces}

@@ -1,4 +1,4 @@
-use Rattle.std.proofs.Common.{length, ◌-◌, ◌≡◌, ◌≤◌, ℕ, ◌+◌, ◌*◌, ◌<◌, drop}
+use Rattle.std.proofs.Common.{length, ◌-◌, ◌≡◌, ◌≤◌, ◌+◌, drop}
 use Rattle.chf_rows.specs.Pieces.{piece_length}
 use Rattle.chf_rows.proofs.separated.piece_length.Given as goal
 

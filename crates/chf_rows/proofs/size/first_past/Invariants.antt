@@ -1,4 +1,4 @@
-use Rattle.std.proofs.Common.{◌≡◌, ◌+◌, ◌≤◌, ◌^◌, ◌<◌, drop}
+use Rattle.std.proofs.Common.{◌≡◌, ◌+◌, ◌^◌, ◌<◌, drop}
 use Rattle.chf_rows.specs.Size.{first_past}
 use Rattle.chf_rows.proofs.size.first_past.Given as goal
 
