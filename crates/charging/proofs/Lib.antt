@@ -4,6 +4,8 @@ pub mod Whole
 pub mod LineByLine
 pub mod FieldTexts
 pub mod OneRow
+pub mod PlainLines
+pub mod PlainPieces
 pub mod Begun
 pub mod Bodies
 pub mod NamesInOrder

@@ -11,3 +11,4 @@ pub mod Answering
 pub mod Laws
 pub mod Tasks
 pub mod Status
+pub mod PlainRows

@@ -12,6 +12,7 @@ mod lines;
 mod meter_rows;
 mod name_order;
 mod parsing;
+mod plain_rows;
 mod responses;
 mod routing;
 mod row_items;

@@ -5,6 +5,7 @@ ghost use Rattle.charging.specs.Items.{only_row, operator_items, row_item, rows_
 
 use crate::csv_rows::{next_row, rows_of};
 use crate::item::Item;
+use crate::plain_rows::{is_plain, plain_row};
 use csv::ByteRecord;
 use std::alloc::Global;
 use units::{List, OutOfMemory, Text};
@@ -37,7 +38,19 @@ pub fn row_item(alloc: Global, row: &ByteRecord) -> Result<Item, OutOfMemory>
 }
 
 /// The item of a line that is one row.
+#[tactic(auto, using(crate::proofs::PlainLines::plain_rows))]
 pub fn only_row(alloc: Global, line: &[u8]) -> Result<Item, OutOfMemory>
+    ensures { IfOk result (λ item. item ≡ only_row (rows_in line.now)) }
+{
+    if is_plain(line) {
+        plain_row(alloc, line)
+    } else {
+        read_row(alloc, line)
+    }
+}
+
+// The same by the reader of rows.
+fn read_row(alloc: Global, line: &[u8]) -> Result<Item, OutOfMemory>
     ensures { IfOk result (λ item. item ≡ only_row (rows_in line.now)) }
 {
     let mut reader = rows_of(alloc, line);

@@ -3,7 +3,7 @@ use Rattle.csv.specs.Reading.{strip_bom}
 use Rattle.csv.specs.declared.parser.State.TheVariants as st
 use Rattle.charging.specs.Items.{only_row}
 use Rattle.charging.proofs.OneRow.{no_row, one_row, two_rows}
-use Rattle.charging.proofs.row_items.only_row.Goals as goal
+use Rattle.charging.proofs.row_items.read_row.Goals as goal
 
 pub returns-then-not-branch : goal.returns-then-not-branch
 returns-then-not-branch c =
