@@ -1,0 +1,16 @@
+pub mod Fronts
+pub mod Once
+pub mod Stay
+pub mod Hopes
+pub mod RequestHeads
+pub mod ResponseHeads
+pub mod Scan
+pub mod Lines
+pub mod Found
+pub mod Spans
+pub mod RequestFound
+pub mod ResponseFound
+pub mod Views
+pub mod Taking
+pub mod Deciding
+pub mod Reading

@@ -1,0 +1,13 @@
+pub mod Front
+pub mod Fields
+pub mod Heads
+pub mod Requests
+pub mod Responses
+pub mod Held
+pub mod Starts
+pub mod RequestParts
+pub mod ResponseParts
+pub mod Target
+pub mod Laws
+pub mod Buffers
+pub mod Decisions

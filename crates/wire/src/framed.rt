@@ -1,0 +1,69 @@
+//! What the reader asks of a kind of message, and what stands at the front of some bytes.
+ghost use Rattle.std.specs.Prelude.{◌≡◌, ◌≤◌, ℕ, List, IfOk, length};
+ghost use Rattle.wire.specs.Front.{front, line_feeds};
+ghost use Rattle.wire.specs.Heads.{Head};
+ghost use Rattle.wire.specs.Starts.{FindsHead, Starts};
+
+use crate::front::{MOST_BYTES, MOST_LINES, count_lines, front_of};
+use crate::refusal::WireRefusal;
+use httparse::spans::{EMPTY_HEADER_SPAN, HeaderSpan};
+use std::alloc::{AllocError, Global};
+
+/// A head: how many bytes it has, the length of the body that follows it or why it is refused, and where its parts lie.
+#[derive(Clone, Copy, Debug)]
+pub struct FoundHead<P> {
+    pub size: usize,
+    pub body: Result<usize, WireRefusal>,
+    pub parts: P,
+}
+
+/// What bytes begin with.
+#[derive(Clone, Copy, Debug)]
+pub enum Start<P> {
+    Found(FoundHead<P>),
+    /// No head so far.
+    Open,
+    /// No head, whatever follows.
+    Hopeless,
+}
+
+/// A kind of message: how its heads are found, and how a message is made of a head and its body.
+pub trait Framed {
+    type Parts: Copy;
+
+    ghost is_at: { List ℕ → Head Self → Type 0 };
+
+    ghost is_hopeless: { List ℕ → Type 0 };
+
+    ghost are_parts: { Self.Parts → List ℕ → Head Self → Type 0 };
+
+    /// What these bytes begin with; where they have too many lines only a head that is found counts.
+    fn parse(near: &[u8], fields: &mut [HeaderSpan]) -> Start<Self::Parts>
+        requires { length fields.old ≡ 66 }
+        ensures found { FindsHead is_at are_parts near.now result }
+        ensures exact { line_feeds near.now ≤ 66 → Starts is_at is_hopeless are_parts near.now result };
+
+    /// The message that a head with these parts is with this body.
+    fn message(
+        alloc: Global,
+        head: &[u8],
+        parts: Self::Parts,
+        body: &[u8],
+    ) -> Result<Self, AllocError>
+        requires { (found : Head Self) × are_parts parts head.now found }
+        ensures { (found : Head Self) → are_parts parts head.now found → IfOk result (λ message. message ≡ found.message body.now) };
+}
+
+/// What stands at the front of these bytes.
+///
+/// Most heads are short, so the front is looked for only where no short one stands there.
+pub fn start_of<M: Framed>(bytes: &[u8]) -> Start<M::Parts>
+    ensures { Starts M.is_at M.is_hopeless M.are_parts (front bytes.now) result }
+{
+    let mut fields = [EMPTY_HEADER_SPAN; 66];
+    let near = &bytes[..bytes.len().min(MOST_BYTES)];
+    match M::parse(near, &mut fields) {
+        Start::Found(found) if count_lines(&near[..found.size]) < MOST_LINES => Start::Found(found),
+        _ => M::parse(front_of(bytes), &mut fields),
+    }
+}
