@@ -1,5 +1,5 @@
 //! The reader of a connection.
-ghost use Rattle.std.specs.Prelude.{◌≡◌, ◌≤◌, ◌+◌, ◌++◌, [], ℕ, List, false, drop, IfOk, IsErrOf, OnErr, OnOk, Some};
+ghost use Rattle.std.specs.Prelude.{◌≡◌, ◌↔◌, ◌≤◌, ◌+◌, ◌++◌, [], ℕ, List, false, drop, IfOk, IsErrOf, IsTrue, OnErr, OnOk, Some};
 ghost use Rattle.edge.specs.Faults.{CountRose};
 ghost use Rattle.wire.specs.Decisions.{IsReady};
 ghost use Rattle.wire.specs.Heads.{Begins, More, Whole};
@@ -30,6 +30,13 @@ impl Model for Conn {
     ghost Value = { Held };
 
     ghost view = { λ c. record { bytes = c.buffer.held; refused = c.refused } };
+}
+
+// Whether the source ended between messages.
+fn is_end<T>(answer: &Result<T, WireRefusal>) -> bool
+    ensures { IsTrue result ↔ (answer.now ≡ Err (WireRefusal.CutShort 0)) }
+{
+    matches!(answer, Err(WireRefusal::CutShort { had: 0 }))
 }
 
 // Takes a whole message off at the front.
@@ -129,12 +136,13 @@ impl Conn {
         ensures openings { S.openings source.new ≡ S.openings source.old }
         ensures failed_openings { S.failed_openings source.new ≡ S.failed_openings source.old }
     {
-        match self.read::<HttpRequest, S>(alloc, source) {
+        let result = self.read::<HttpRequest, S>(alloc, source);
+        if is_end(&result) {
+            self.refused = false;
+            return Ok(None);
+        }
+        match result {
             Ok(request) => Ok(Some(request)),
-            Err(WireRefusal::CutShort { had: 0 }) => {
-                self.refused = false;
-                Ok(None)
-            }
             Err(refusal) => Err(refusal),
         }
     }
