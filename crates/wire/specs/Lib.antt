@@ -11,3 +11,4 @@ pub mod Target
 pub mod Laws
 pub mod Buffers
 pub mod Decisions
+pub mod Texts
