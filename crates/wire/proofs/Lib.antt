@@ -14,3 +14,4 @@ pub mod Views
 pub mod Taking
 pub mod Deciding
 pub mod Reading
+pub mod RequestBack

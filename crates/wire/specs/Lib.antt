@@ -12,3 +12,4 @@ pub mod Laws
 pub mod Buffers
 pub mod Decisions
 pub mod Texts
+pub mod ReadBack

@@ -1,5 +1,6 @@
 //! The text of a request.
 ghost use Rattle.std.specs.Prelude.{◌≡◌, ◌++◌, IfOk};
+ghost use Rattle.wire.specs.ReadBack.{RequestReadsBack};
 ghost use Rattle.wire.specs.Texts.{request_line, request_text};
 
 use crate::line::{put_line, put_number};
@@ -17,14 +18,16 @@ fn put_request_line(out: &mut Vec<u8>, path: &str) -> Result<(), AllocError>
     Ok(())
 }
 
-/// A POST with a JSON body (RFC 9112 section 3).
+/// A POST with a JSON body (RFC 9112 section 3). It is read as the same, whatever follows, where host and path may stand in
+/// a head and the body is at most 1,048,576 bytes.
 pub fn request_bytes(
     alloc: Global,
     host: &str,
     path: &str,
     body: &[u8],
 ) -> Result<List<u8>, OutOfMemory>
-    ensures { IfOk result (λ bytes. bytes ≡ request_text host.now path.now body.now) }
+    ensures text { IfOk result (λ bytes. bytes ≡ request_text host.now path.now body.now) }
+    ensures reads_back { IfOk result (RequestReadsBack host.now path.now body.now) }
 {
     let mut out = Vec::new(alloc);
     put_request_line(&mut out, path)?;
