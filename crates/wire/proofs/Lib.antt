@@ -15,3 +15,4 @@ pub mod Taking
 pub mod Deciding
 pub mod Reading
 pub mod RequestBack
+pub mod ResponseBack

@@ -204,7 +204,7 @@ stated host n small =
       ∙ ap (λ o. judged (option_and_then (λ now. Some now) (option_and_then (agree None) o)) false) (length_reads n small)
       ∙ ap (λ t. cond t (Ok n) (Err (TooLong false))) small_is
 
-drop_front : (a b : List ℕ) → drop (length a) (a ++ b) ≡ b
+pub drop_front : (a b : List ℕ) → drop (length a) (a ++ b) ≡ b
 drop_front a b = drop-append-le (length a) a b (omega arith) ∙ ap (λ t. t ++ b) (drop_all (length a) a (omega arith))
 
 -- the text and what follows begin with that request

@@ -1,7 +1,6 @@
 -- What is written reads back (this product's own).
-use Rattle.std.specs.Prelude.{ℕ, ◌+◌, ◌≡◌, ◌<◌, ◌≤◌, ◌==◌, ◌++◌, Bool, false, List, length, codes, Option, Some, None, IsUtf8, IfSome, if◌then◌else◌}
-use Rattle.httparse.specs.Grammar.{AllPass, is_uri_byte, is_value_byte}
-use Rattle.httparse.specs.Ascii.{space}
+use Rattle.std.specs.Prelude.{ℕ, ◌+◌, ◌≡◌, ◌<◌, ◌≤◌, ◌++◌, Bool, false, List, length, codes, Option, IsUtf8, IfSome, reverse}
+use Rattle.httparse.specs.Grammar.{AllPass, is_uri_byte, is_value_byte, skip_ows}
 use Rattle.wire.specs.Heads.{Whole}
 use Rattle.wire.specs.Requests.{RequestLooks}
 use Rattle.wire.specs.Responses.{ResponseLooks}
@@ -21,3 +20,17 @@ abbrev pub RequestReadsBack : List ℕ → List ℕ → List ℕ → List ℕ �
 RequestReadsBack host path body bytes =
     AreFit host path body → (more : List ℕ)
     → RequestLooks (bytes ++ more) (Whole (record { method = codes "POST"; path = path; body = body; close = false }) (length bytes))
+
+-- a Location that may stand as a value, without white space around it, short enough for a head
+pub record IsFitLocation (location : List ℕ) : Type 0 where
+  pub bytes : AllPass is_value_byte location
+  pub text : IsUtf8 location
+  pub front : skip_ows location ≡ location
+  pub back : skip_ows (reverse location) ≡ reverse location
+  pub short : length location ≤ 16000
+
+-- a response that was written is read as the same, whatever follows; a 204 without its body
+abbrev pub ResponseReadsBack : ℕ → Option (List ℕ) → List ℕ → List ℕ → Type 0
+ResponseReadsBack status location body bytes =
+    IfSome location IsFitLocation → length body ≤ 1048576 → (more : List ℕ)
+    → ResponseLooks (bytes ++ more) (Whole (record { status = status; location = location; body = body_of status body }) (length bytes))

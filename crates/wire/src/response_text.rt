@@ -1,6 +1,7 @@
 //! The text of a response.
 ghost use Rattle.std.specs.Prelude.{◌≡◌, ◌≤◌, ◌<◌, ◌++◌, [], IfOk, unwrap_or, option_map};
 ghost use Rattle.http.specs.StatusCode.{code_digits, reason_phrase};
+ghost use Rattle.wire.specs.ReadBack.{ResponseReadsBack};
 ghost use Rattle.wire.specs.Texts.{body_lines, body_of, close_line, content_type, location_line, response_text, status_line};
 
 use crate::line::{put_line, put_number};
@@ -77,7 +78,8 @@ fn put_body(out: &mut Vec<u8>, status: u16, body: &[u8]) -> Result<(), AllocErro
     Ok(())
 }
 
-/// A response with a JSON body, or with none at 204; a status of 300 and above is a problem (RFC 9112 section 4).
+/// A response with a JSON body, or with none at 204; a status of 300 and above is a problem (RFC 9112 section 4). It is read
+/// as the same, whatever follows, where the Location may stand in a head and the body is at most 1,048,576 bytes.
 pub fn response_bytes(
     alloc: Global,
     status: u16,
@@ -87,7 +89,8 @@ pub fn response_bytes(
 ) -> Result<List<u8>, OutOfMemory>
     requires code { 100 ≤ status }
     requires within { status < 1000 }
-    ensures { IfOk result (λ bytes. bytes ≡ response_text status (option_map (λ text. text.now) location.entry) body.now close) }
+    ensures text { IfOk result (λ bytes. bytes ≡ response_text status (option_map (λ text. text.now) location.entry) body.now close) }
+    ensures reads_back { IfOk result (ResponseReadsBack status (option_map (λ text. text.now) location.entry) body.now) }
 {
     let Ok(code) = StatusCode::from_u16(status) else {
         unreachable!();
