@@ -1,3 +1,4 @@
+//! The reports of one session, taken one by one.
 ghost use Rattle.std.specs.Prelude.{◌≡◌, ◌≢◌, ◌<◌, ◌≤◌, ◌+◌, ◌^◌, ◌==◌, ◌++◌, ◌∷◌, [], ℕ, Bool, List, All, length, OnOk, IsOk, Ok, Some, None, false, is_some};
 ghost use Rattle.units.specs.Cut.{AreCuts, AreWidestCuts, IsCut, reports_of, containers_of, no_switch, whole_hour};
 ghost use Rattle.units.specs.declared.report.Report.{Report};

@@ -1,3 +1,4 @@
+//! A report that is taken, in all that is kept of a session.
 ghost use Rattle.std.specs.Prelude.{◌≡◌, ◌≤◌, ◌<◌, ◌+◌, ◌-◌, ◌^◌, ◌++◌, ◌∷◌, [], length, Some, None, vec_len, vec_capacity, slice_set};
 ghost use Rattle.meter.specs.Caches.{AreKept, Admitted};
 ghost use Rattle.meter.specs.Meter.{last_in, extended, opened};

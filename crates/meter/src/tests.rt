@@ -1,3 +1,4 @@
+//! Reports with the containers that come of them, worked out by hand.
 use crate::{Meter, MeterRefusal, Seen};
 use std::alloc::Global;
 use std::test::Fail;

@@ -1,3 +1,4 @@
+//! What holds of all lists of what came to a group.
 ghost use Rattle.std.specs.Prelude.{◌≡◌, ℕ, Bool, List, Option, Some};
 ghost use Rattle.units.specs.declared.report.Container.{Container};
 ghost use Rattle.units.specs.declared.trigger.TriggerType.{TriggerType};

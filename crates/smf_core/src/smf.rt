@@ -1,3 +1,4 @@
+//! The machine: an event is planned, and then committed.
 ghost use Rattle.std.specs.Prelude.{◌≡◌, ◌<◌, ◌-◌, ◌++◌, [], IfOk, IfErr, OnOk, min, map, option_map, slice_get, vec_len, vec_capacity};
 ghost use Rattle.std.specs.Option.{option_copied};
 ghost use Rattle.smf_core.specs.declared.refusal.Seen.TheVariants.{New, Known as AlreadyKnown};

@@ -1,3 +1,4 @@
+//! Reports, changes of charging conditions, and ends of traffic.
 ghost use Rattle.std.specs.Prelude.{◌≡◌, ◌==◌, ◌+◌, ◌<◌, ◌^◌, [], ◌∷◌, ◌++◌, nat_lt, ◌↔◌, IfOk, IsOk, OnOk, IsTrue, map, filter, length, if◌then◌else◌, false};
 ghost use Rattle.std.specs.List.{list_any};
 ghost use Rattle.smf_core.specs.Draft.{whole, joined_past, counted_past};
