@@ -1,3 +1,4 @@
+//! Octets with what is read of them; for tests.
 // Octets to be read, and what is expected: `=`, the length of the element and its one shortest spelling with definite lengths, or `!` and the
 // first octet of the element that has the first fault. None of it comes from this crate.
 

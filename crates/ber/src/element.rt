@@ -1,3 +1,4 @@
+//! Elements at the front of octets, under a grammar and under none.
 ghost use Rattle.std.specs.Prelude.{◌≡◌, ◌<◌, ◌≤◌, ◌^◌, ◌++◌, ℕ, List, length, take, Ok, IfOk};
 ghost use Rattle.ber.specs.Element.{Element, element};
 ghost use Rattle.ber.specs.Spelling.{Spells};

@@ -1,3 +1,4 @@
+//! The one reader of elements, from left to right under a grammar.
 ghost use Rattle.std.specs.Prelude.{◌≡◌, ◌+◌, ◌<◌, ◌≤◌, ◌^◌, length, IfOk};
 ghost use Rattle.std.specs.Option.{option_map};
 ghost use Rattle.ber.specs.Element.{element, elements};

@@ -1,3 +1,4 @@
+//! Why no element was read.
 ghost use Rattle.std.specs.Prelude.{◌≡◌};
 ghost use Rattle.ber.specs.declared.refusal.BerRefusal.TheVariants as refusal;
 

@@ -1,3 +1,4 @@
+//! Elements read and written; each allocation may fail.
 use crate::cases::{CASES, CUTS, RECORD, VECTORS};
 use crate::{
     BerRefusal, Grammar, Step, Tag, constructed, primitive, read, read_tlv, value, write_tlv,

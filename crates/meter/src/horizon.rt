@@ -1,3 +1,4 @@
+//! How far a rating group's tariff is known, and the hours at which it may switch.
 ghost use Rattle.std.specs.Prelude.{◌≡◌, ◌==◌, ◌≤◌, ◌<◌, false, length, map, position, IfSome, vec_len, vec_capacity};
 ghost use Rattle.std.specs.List.{find};
 ghost use Rattle.meter.specs.Horizons.{is_within, next_hour, hour_from, least_unsafe, has_unsafe};

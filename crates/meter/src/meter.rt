@@ -1,4 +1,5 @@
-ghost use Rattle.std.specs.Prelude.{◌≡◌, ◌≢◌, ◌<◌, ◌≤◌, ◌+◌, ◌^◌, ◌==◌, ◌++◌, ◌∷◌, [], ℕ, Bool, List, All, length, OnOk, Ok, Some, None, false, is_some};
+//! The reports of one session, taken one by one.
+ghost use Rattle.std.specs.Prelude.{◌≡◌, ◌≢◌, ◌<◌, ◌≤◌, ◌+◌, ◌^◌, ◌==◌, ◌++◌, ◌∷◌, [], ℕ, Bool, List, All, length, OnOk, IsOk, Ok, Some, None, false, is_some};
 ghost use Rattle.units.specs.Cut.{AreCuts, AreWidestCuts, IsCut, reports_of, containers_of, no_switch, whole_hour};
 ghost use Rattle.units.specs.declared.report.Report.{Report};
 ghost use Rattle.meter.specs.Horizons.{AreForeseen};
@@ -53,9 +54,10 @@ impl Meter {
     }
 
     /// Makes room: then one report, or one horizon of each of at most 16 groups, and closes after these or without them,
-    /// take no memory. Where memory is wanting, nothing came of it.
+    /// take no memory. Where the room is there already it takes none. Where memory is wanting, nothing came of it.
     pub fn make_room(&mut self, _alloc: Global) -> Result<(), OutOfMemory>
         ensures room { OnOk result (0 < self.new.room) }
+        ensures there { 0 < self.old.room → IsOk result }
         ensures same { self.new.contents ≡ self.old.contents }
     {
         self.containers.reserve(1)?;
@@ -149,6 +151,7 @@ impl Meter {
         requires last { last_of self.old.contents report.now.group ≡ Some container.now }
         requires seconds { container.now.seconds + report.now.seconds < 2 ^ 32 }
         ensures value { self.new.contents ≡ with_joined self.old.contents container.now report.now }
+        ensures room { self.new.room ≤ self.old.room }
         ensures counted { report_total self.new.contents.containers ≡ report_total self.old.contents.containers + 1 }
     {
         grow(
@@ -169,6 +172,7 @@ impl Meter {
         requires room { 0 < self.old.room }
         requires none { open_of self.old.contents report.now.group ≡ None }
         ensures value { self.new.contents ≡ with_opened self.old.contents report.now }
+        ensures room { self.new.room ≤ self.old.room }
         ensures counted { report_total self.new.contents.containers ≡ report_total self.old.contents.containers + 1 }
     {
         open_next(
@@ -199,6 +203,7 @@ impl Meter {
         requires new { answer_of self.old.contents report.now ≡ Ok Seen.New }
         requires room { 0 < self.old.room }
         ensures value { self.new.contents ≡ after_report self.old.contents report.now }
+        ensures room { self.new.room ≤ self.old.room }
         ensures counted { report_total self.new.contents.containers ≡ report_total self.old.contents.containers + 1 }
         ensures numbered { AreNumbered 1 self.old.contents.containers }
         ensures closes { length self.old.contents.closes ≡ length self.old.contents.containers }
@@ -232,6 +237,7 @@ impl Meter {
         ensures few { result ≡ Ok Seen.New → report_total self.old.contents.containers < 2 ^ 20 }
         ensures counted { result ≡ Ok Seen.New → report_total self.new.contents.containers ≡ report_total self.old.contents.containers + 1 }
         ensures horizons { self.new.contents.horizons ≡ self.old.contents.horizons }
+        ensures room { self.new.room ≤ self.old.room }
 
         // The group's open container ends with it, and those of other groups are as before.
         ensures open { result ≡ Ok Seen.New → IsOpenUntil self.new.contents report.group report.moment }

@@ -1,4 +1,4 @@
-use crate::plain::hourly_cut;
+//! Reports with the containers that come of them, worked out by hand.
 use crate::{Meter, MeterRefusal, Seen};
 use std::alloc::Global;
 use std::test::Fail;
@@ -170,35 +170,6 @@ fn closes_at_the_time_limit(rt: HostRuntime) -> Result<(), Fail> {
             assert_eq!(rt; closed.container.seconds, 4_294_944_000);
         }
         None => assert!(rt; false),
-    }
-    Ok(())
-}
-
-// Lists of reports that a linear congruence gives, against the plain cut of each.
-#[test]
-fn is_the_plain_cut(rt: HostRuntime) -> Result<(), Fail> {
-    let alloc = rt.alloc();
-    let mut state = 20_261_130u64;
-    for list in 0..40u32 {
-        let mut meter = Meter::new(alloc);
-        let mut reports: Vec<Report> = Vec::new(alloc);
-        let mut moment = u64::from(list) * 1000;
-        for number in 1..100u32 {
-            state = (state % 4_294_967_296) * 1_103_515_245 + 12_345;
-            moment = moment.saturating_add((state / 65_536) % 4000);
-            let report = Report {
-                up: state % 1000,
-                down: state % 777,
-                ..usage(3, number, moment)
-            };
-            reports.push(report)?;
-            assert!(rt; is_new(&mut meter, alloc, report)?);
-        }
-        let cut = hourly_cut(alloc, &reports)?;
-        assert!(rt; meter.containers().len() == cut.len());
-        for (ours, plain) in meter.containers().iter().zip(cut.iter()) {
-            assert!(rt; ours == plain);
-        }
     }
     Ok(())
 }

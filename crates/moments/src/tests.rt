@@ -1,3 +1,4 @@
+//! Date times and time stamps with their moments, worked out elsewhere.
 ghost use Rattle.std.specs.Prelude.{◌≤◌};
 
 use crate::{from_bcd, read_time, to_bcd, write_time};

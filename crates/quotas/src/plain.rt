@@ -1,3 +1,4 @@
+//! The same from the whole list, by a walk over it; for tests.
 ghost use Rattle.std.specs.Prelude.{◌≡◌, sum_by};
 ghost use Rattle.quotas.specs.Quota.{capped};
 ghost use Rattle.quotas.specs.Steps.{since_freezing};

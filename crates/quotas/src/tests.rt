@@ -1,3 +1,4 @@
+//! Groups by the trigger table, read off by hand, and lists of steps beside a walk over them.
 use crate::due::due_by_terms;
 use crate::plain::{plain_last_use, plain_set, plain_use};
 use crate::standing::{Standing, left_from};

@@ -12,7 +12,6 @@ mod kept;
 mod laws;
 mod names;
 mod next;
-mod plain;
 mod plan;
 mod refusal;
 mod rules;
@@ -30,15 +29,12 @@ pub use laws::{
     requests_are_apart, requests_are_named, requests_hold, requests_in_order, requests_stand,
     settles_once,
 };
-pub use plain::{plain_after, plain_step};
 pub use plan::SmfPlan;
 pub use refusal::{Seen, SmfRefusal};
 pub use session::{Entry, Holding, Layer, Life, Machine, Place, Session, Why};
 pub use setup::SmfSetup;
 pub use smf::Smf;
 
-#[cfg(test)]
-mod test_draws;
 #[cfg(test)]
 mod test_rows;
 #[cfg(test)]
