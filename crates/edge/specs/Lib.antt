@@ -3,3 +3,4 @@ pub mod Connections
 pub mod Memory
 pub mod Streams
 pub mod Reading
+pub mod Disk
