@@ -1,6 +1,7 @@
 //! What the outside gives and takes: sources and sinks, each with a count of its faults.
 #![tactic(auto)]
 
+mod disk;
 mod memory_sink;
 mod memory_source;
 mod reading;
@@ -10,6 +11,7 @@ mod stream_source;
 mod traits;
 mod writing;
 
+pub use disk::{Disk, DiskRefusal};
 pub use memory_sink::MemSink;
 pub use memory_source::MemSource;
 pub use reading::{ReadEnd, read_all};
