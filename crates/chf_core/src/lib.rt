@@ -18,14 +18,6 @@ mod laws;
 mod names;
 mod numbered;
 mod operator;
-#[cfg(test)]
-mod plain;
-#[cfg(test)]
-mod plain_accounts;
-#[cfg(test)]
-mod plain_decision;
-#[cfg(test)]
-mod plain_keys;
 mod plan;
 mod reads;
 mod refusal;

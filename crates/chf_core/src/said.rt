@@ -1,6 +1,5 @@
 //! What the charging function answers, in words.
 use crate::command::Outcome;
-use crate::decision::Verdict;
 use crate::refusal::ChfRefusal;
 use crate::words::short;
 use accounts::Accounts;
@@ -73,16 +72,6 @@ pub fn say_refusal(alloc: Global, refusal: ChfRefusal) -> Result<String, Fail> {
         ChfRefusal::SequencePassed { last } => Ok(format!(in alloc; "E30 {last}")?),
         ChfRefusal::UnknownReference => Ok(String::from_str(alloc, "E31")?),
         ChfRefusal::TopUpDiffers => Ok(String::from_str(alloc, "E36")?),
-    }
-}
-
-/// What a verdict says of a command.
-pub fn say_verdict(alloc: Global, verdict: &Verdict) -> Result<String, Fail> {
-    match verdict {
-        Verdict::Kept { place } => Ok(format!(in alloc; "kept {place}")?),
-        Verdict::Known => Ok(String::from_str(alloc, "known")?),
-        Verdict::Refused { refusal } => say_refusal(alloc, *refusal),
-        Verdict::Fresh { outcome } => say_outcome(alloc, outcome),
     }
 }
 

@@ -1,10 +1,8 @@
 //! Runs the charging function through days of steps.
 use crate::chf::Chf;
 use crate::command::Command;
-use crate::decision::{Decision, Verdict};
-use crate::plain_accounts::money;
-use crate::plain_decision::decide;
-use crate::said::{say_numbers, say_outcome, say_refusal, say_verdict};
+use crate::decision::Decision;
+use crate::said::{say_numbers, say_outcome, say_refusal};
 use crate::words::{setup, told};
 use accounts::Accounts;
 use std::alloc::Global;
@@ -60,36 +58,4 @@ pub fn run(alloc: Global, day: &str) -> Result<Chf, Fail> {
         step(alloc, &mut chf, line)?;
     }
     Ok(chf)
-}
-
-// The same of the slow program, which works out the answer and the accounts anew from all commands before, the newest first.
-fn plain_step(alloc: Global, commands: &mut Vec<Command>, line: &str) -> Result<(), Fail> {
-    let Some((words, expected)) = line.split_once('>') else {
-        return Err(Fail::from(line));
-    };
-    if commands.len() > 1000 {
-        return Err(Fail::from("too many"));
-    }
-    let command = told(alloc, words)?;
-    let verdict = decide(alloc, commands.as_slice(), &command)?;
-    let said = say_verdict(alloc, &verdict)?;
-    if let Verdict::Fresh { .. } = &verdict {
-        commands.insert(0, command)?;
-    }
-    let accounts = money(alloc, commands.as_slice())?;
-    if is_said(alloc, &accounts, said.as_str(), expected)? {
-        Ok(())
-    } else {
-        Err(Fail::from(line))
-    }
-}
-
-/// Runs the slow program through the steps of a day; it answers how many commands it took. The failure is the first step that is not as it says.
-pub fn run_plain(alloc: Global, day: &str) -> Result<usize, Fail> {
-    let mut commands = Vec::new(alloc);
-    commands.push(setup(alloc)?)?;
-    for line in day.split('\n') {
-        plain_step(alloc, &mut commands, line)?;
-    }
-    Ok(commands.len())
 }

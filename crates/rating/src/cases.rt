@@ -1,5 +1,5 @@
-// Cases around each boundary. What is expected was worked out by a Python script from the words of the rules, without this crate: the period by `max`
-// over the listed hours, the next switch hour by hour, the units by `//`; the rows that are read were written and judged by hand.
+//! Cases around each boundary. What is expected was worked out by a Python script from the words of the rules, without this crate: the period by `max`
+//! over the listed hours, the next switch hour by hour, the units by `//`; the rows that are read were written and judged by hand.
 
 /// The rows of some tariffs.
 pub const RATES: &str = "group,10,volume,1000000,100000,3600,0,TERMINATE

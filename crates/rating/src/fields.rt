@@ -1,3 +1,4 @@
+//! The fields of rows: a number in a range, and words.
 ghost use Rattle.std.specs.Prelude.{◌≡◌, ◌≤◌, IfSome};
 ghost use Rattle.rows.specs.Number.{number_of};
 ghost use Rattle.rating.specs.Row.{action_of, chunk_of, kind_of};

@@ -7,8 +7,6 @@ mod fields;
 mod grant;
 mod laws;
 mod period;
-#[cfg(test)]
-mod plain;
 mod reading;
 mod refusal;
 mod row;

@@ -1,5 +1,5 @@
+//! Prices, switches, grants and rows against numbers worked out elsewhere.
 use crate::cases::{GRANTS, PRICES, RATES, READINGS};
-use crate::plain::plain_price;
 use crate::{Grant, Kind, RatingRefusal, Tariffs, Terms};
 use rows::{number, wide_number};
 use std::alloc::Global;
@@ -48,7 +48,7 @@ fn code(text: &str) -> Option<Code> {
     }
 }
 
-// Whether price, plain price and next switch are as a line says.
+// Whether price and next switch are as a line says.
 fn is_priced(tariffs: &Tariffs, fields: &[&str]) -> Option<bool> {
     let [group, up, down, seconds, first, price, next] = fields else {
         return None;
@@ -56,9 +56,8 @@ fn is_priced(tariffs: &Tariffs, fields: &[&str]) -> Option<bool> {
     let (group, up, down, seconds) = (short(group)?, long(up)?, long(down)?, short(seconds)?);
     let first = moment(first)?;
     let price = wide(price)?;
-    let plain = plain_price(tariffs.rows().as_slice(), group, up, down, seconds, first);
     let next_is = tariffs.next_switch(group, first) == moment(next);
-    Some(tariffs.price(group, up, down, seconds, first) == price && plain == price && next_is)
+    Some(tariffs.price(group, up, down, seconds, first) == price && next_is)
 }
 
 // Whether a grant is as a line says.

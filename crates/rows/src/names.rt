@@ -1,3 +1,4 @@
+//! Names: printable bytes without comma and double quote.
 ghost use Rattle.std.specs.Prelude.{◌≡◌};
 ghost use Rattle.std.specs.List.{list_all};
 ghost use Rattle.rows.specs.Name.{is_name_byte, spells_name};
