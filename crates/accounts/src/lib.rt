@@ -3,15 +3,11 @@
 
 mod account;
 mod accounts;
-#[cfg(test)]
-mod both;
 mod charge;
 mod due;
 mod groups;
 mod laws;
 mod line;
-#[cfg(test)]
-mod plain;
 mod refusal;
 mod reservation;
 mod reservations;
@@ -21,6 +17,3 @@ pub use charge::Charge;
 pub use laws::{accounts_balance, moves_change_free, reservations_hold, reservations_stay};
 pub use line::Line;
 pub use refusal::AccountRefusal;
-
-#[cfg(test)]
-mod tests;

@@ -19,8 +19,3 @@ pub use refusal::BerRefusal;
 pub use tag::Tag;
 pub use tlv::{Body, Tlv, constructed, primitive};
 pub use writing::write_tlv;
-
-#[cfg(test)]
-mod cases;
-#[cfg(test)]
-mod tests;

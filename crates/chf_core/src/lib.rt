@@ -2,8 +2,6 @@
 #![tactic(auto)]
 
 mod asks;
-#[cfg(test)]
-mod cases;
 mod chf;
 mod command;
 mod commit;
@@ -22,18 +20,12 @@ mod plan;
 mod reads;
 mod refusal;
 mod reply;
-#[cfg(test)]
-mod said;
 mod session;
 mod setup;
-#[cfg(test)]
-mod steps;
 mod subscription;
 mod target;
 mod trial;
 mod verdict;
-#[cfg(test)]
-mod words;
 
 pub use chf::Chf;
 pub use command::{Command, Outcome};
@@ -44,6 +36,3 @@ pub use laws::{
 };
 pub use refusal::ChfRefusal;
 pub use setup::ChfSetup;
-
-#[cfg(test)]
-mod tests;

@@ -13,6 +13,3 @@ pub use operator_row::read_operator_row;
 pub use refusal::SetupRefusal;
 pub use separated::piece_length;
 pub use setup_rows::{is_setup_row, read_setup};
-
-#[cfg(test)]
-mod tests;

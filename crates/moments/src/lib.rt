@@ -8,6 +8,3 @@ mod text;
 
 pub use stamp::{from_bcd, stamps_read_back, to_bcd};
 pub use text::{read_time, times_read_back, write_time};
-
-#[cfg(test)]
-mod tests;

@@ -4,13 +4,9 @@
 mod due;
 mod group;
 mod laws;
-#[cfg(test)]
-mod plain;
 mod standing;
 mod state;
 mod step;
-#[cfg(test)]
-mod tests;
 
 pub use group::Group;
 pub use laws::{by_whole_list, fires_once};

@@ -1,8 +1,6 @@
 //! Tariffs: what usage of a rating group costs, when its prices change, and what a quota of it sets aside.
 #![tactic(auto)]
 
-#[cfg(test)]
-mod cases;
 mod fields;
 mod grant;
 mod laws;
@@ -14,8 +12,6 @@ mod search;
 mod tariff;
 mod tariffs;
 mod terms;
-#[cfg(test)]
-mod tests;
 
 pub use grant::Grant;
 pub use laws::{
