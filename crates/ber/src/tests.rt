@@ -41,7 +41,7 @@ fn is_read(alloc: Global, bytes: &[u8], length: usize, written: &[u8]) -> Result
     }
 }
 
-fn is_refused(alloc: Global, bytes: &[u8], octet: usize) -> bool {
+fn is_refused(alloc: Global, bytes: &[u8], octet: u64) -> bool {
     match read_tlv(alloc, bytes) {
         Ok(_) => false,
         Err(refusal) => refusal == BerRefusal::BadRecord { at: octet },
@@ -50,7 +50,7 @@ fn is_refused(alloc: Global, bytes: &[u8], octet: usize) -> bool {
 
 fn is_as_expected(alloc: Global, line: &str) -> Result<bool, Fail> {
     if let Some((bytes, octet)) = line.split_once('!') {
-        let octet = octet.parse::<usize>().ok().ok_or("no octet")?;
+        let octet = octet.parse::<u64>().ok().ok_or("no octet")?;
         return Ok(is_refused(alloc, octets(alloc, bytes)?.as_slice(), octet));
     }
     let (bytes, rest) = line.split_once('=').ok_or("no answer")?;
@@ -95,7 +95,7 @@ fn octets_are_read_and_refused_as_other_readers_say(rt: HostRuntime) -> Result<(
     assert!(rt; is_read(alloc, bytes.as_slice(), 140, record.as_slice())?);
     let mut cut = 0usize;
     for octet in CUTS.split_whitespace() {
-        let octet = octet.parse::<usize>().ok().ok_or("no octet")?;
+        let octet = octet.parse::<u64>().ok().ok_or("no octet")?;
         let front = bytes.as_slice().get(..cut).unwrap_or(&[]);
         assert!(rt; is_refused(alloc, front, octet), "cut at {cut}");
         let front = record.as_slice().get(..cut.min(138)).unwrap_or(&[]);
@@ -226,11 +226,11 @@ impl Grammar for Once {
 }
 
 // The length that is read, or the octet of the first fault behind an exclamation mark.
-fn read_once(alloc: Global, bytes: &[u8]) -> (bool, usize) {
+fn read_once(alloc: Global, bytes: &[u8]) -> (bool, u64) {
     match read(alloc, Once { seen: false }, bytes) {
-        Ok((_, length)) => (true, length),
+        Ok((_, length)) => (true, length as u64),
         Err(BerRefusal::BadRecord { at }) => (false, at),
-        Err(BerRefusal::OutOfMemory) => (false, usize::MAX),
+        Err(BerRefusal::OutOfMemory) => (false, u64::MAX),
     }
 }
 
