@@ -12,7 +12,7 @@ pub enum BerRefusal {
     /// The octets break the grammar (E21).
     BadRecord {
         /// The first octet, from 0, of the element that has the fault that is met first.
-        at: usize,
+        at: u64,
     },
 }
 
