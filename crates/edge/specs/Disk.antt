@@ -1,5 +1,5 @@
 -- What the calls of a disk do to its bytes, and what a crash may leave.
-use Rattle.std.specs.Prelude.{◌≡◌, ◌<◌, ◌≤◌, ◌+◌, ◌-◌, ◌⊎◌, ⊤, ℕ, max, List, ◌++◌, length, get_or, take, drop, replicate, Result, Ok, Err, Option, None, Some, is_some, Bool, IsTrue}
+use Rattle.std.specs.Prelude.{◌≡◌, ◌<◌, ◌≤◌, ◌+◌, ◌-◌, ◌⊎◌, ⊤, ℕ, max, List, ◌++◌, length, get_or, take, drop, replicate, Result, Ok, Err, Option, Some, is_some, Bool, IsTrue}
 use Rattle.edge.specs.declared.disk.DiskRefusal.{DiskRefusal}
 use Rattle.edge.specs.declared.disk.DiskRefusal.TheVariants.{Failed, Fenced}
 

@@ -4,3 +4,8 @@ pub mod Memory
 pub mod Streams
 pub mod Reading
 pub mod Disk
+pub mod Stored
+pub mod StoredImages
+pub mod DiskScript
+pub mod MemDisks
+pub mod FileDisks

@@ -2,6 +2,11 @@
 #![tactic(auto)]
 
 mod disk;
+mod disk_script;
+mod disk_store;
+mod epoch_text;
+mod file_disk;
+mod memory_disk;
 mod memory_sink;
 mod memory_source;
 mod reading;
@@ -12,6 +17,8 @@ mod traits;
 mod writing;
 
 pub use disk::{Disk, DiskRefusal};
+pub use file_disk::FileDisk;
+pub use memory_disk::MemDisk;
 pub use memory_sink::MemSink;
 pub use memory_source::MemSource;
 pub use reading::{ReadEnd, read_all};
