@@ -1,4 +1,11 @@
-//! What the outside gives and takes: sources and sinks, each with a count of its faults.
+//! What the outside gives and takes: sources, sinks and disks, each with a count of its faults.
+//!
+//! What it promises: a call answers that it failed only where the device's count of faults rose in that call, and
+//! bytes are told where a device tells them. `Stream`, the parent of `Source` and `Sink`, tells of each connection
+//! its bytes read, left and written, whether a read or a write on it failed, its peer, and whether a door is
+//! closed, so that no clause of them changes when links and doors come. Of a `Disk` contracts see what a read
+//! gives, its epoch, and what a crash at this moment may leave. A further device of bytes is a trait whose parent
+//! is `Stream`, with its form in memory in a file of its own.
 #![tactic(auto)]
 
 mod disk;

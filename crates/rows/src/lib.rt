@@ -1,4 +1,7 @@
-//! Numbers and names as the fields of rows spell them, and the pieces of a text between separators.
+//! Numbers, names and the pieces between separators, as rows spell them.
+//!
+//! What it promises: each reader answers exactly by its grammar (`specs/`), takes no memory, and is the one place
+//! of that grammar, below every crate that reads rows. What more than one crate reads of a row comes here.
 #![tactic(auto)]
 
 mod digits;
