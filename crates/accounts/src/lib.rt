@@ -3,22 +3,20 @@
 
 mod account;
 mod accounts;
-#[cfg(test)]
-mod both;
 mod charge;
 mod due;
 mod groups;
 mod laws;
 mod line;
-#[cfg(test)]
-mod plain;
 mod refusal;
 mod reservation;
 mod reservations;
 
 pub use accounts::Accounts;
 pub use charge::Charge;
-pub use laws::{accounts_balance, moves_change_free, reservations_hold, reservations_stay};
+pub use laws::{
+    accounts_balance, lines_are_charges, moves_change_free, reservations_hold, reservations_stay,
+};
 pub use line::Line;
 pub use refusal::AccountRefusal;
 
