@@ -1,7 +1,7 @@
-use crate::{cause_text, read_reply, read_request, session_location, write_reply, write_request};
+use crate::{cause_of, read_reply, read_request, session_location, write_reply, write_request};
 use std::alloc::{AllocError, Global};
 use std::test::Fail;
-use units::{JsonRefusal, Operation, Reply};
+use units::{JsonRefusal, Operation, Reply, name_of_cause};
 
 // The fields of a Create that is right.
 const REQUEST: [(&str, &str); 5] = [
@@ -489,7 +489,11 @@ fn request_outcome(alloc: Global, operation: Operation, body: &[u8]) -> Result<S
             }
             Ok(text)
         }
-        Err(refusal) => Ok(refusal_text(alloc, cause_text(operation, &refusal), &refusal)?),
+        Err(refusal) => Ok(refusal_text(
+            alloc,
+            name_of_cause(cause_of(operation, &refusal)),
+            &refusal,
+        )?),
     }
 }
 
@@ -620,7 +624,7 @@ fn nested(alloc: Global, depth: usize) -> Result<String, AllocError> {
 fn cause_of(alloc: Global, body: &[u8]) -> &'static str {
     match read_request(alloc, Operation::Create, body) {
         Ok(_request) => "read",
-        Err(refusal) => cause_text(Operation::Create, &refusal),
+        Err(refusal) => name_of_cause(cause_of(Operation::Create, &refusal)),
     }
 }
 
