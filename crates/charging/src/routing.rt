@@ -7,8 +7,7 @@ ghost use Rattle.charging.specs.Routing.{below, body_problem, by_method, by_oper
 use crate::item::Method;
 use crate::line_items::after_word;
 use charging_json::{cause_text, read_request};
-use chf_rows::piece_length;
-use rows::number;
+use rows::{number, piece_length};
 use std::alloc::{AllocError, Global};
 use units::{JsonRefusal, Operation, OutOfMemory, Problem, Reply, Request, Text, copy};
 

@@ -1,3 +1,4 @@
+//! The fields of rows: words and names.
 ghost use Rattle.std.specs.Prelude.{◌≡◌, IfOk, option_map};
 ghost use Rattle.chf_rows.specs.Setup.{failover_of, name_of};
 

@@ -1,3 +1,4 @@
+//! Rows by hand, and what they are read as.
 use crate::{SetupRefusal, read_operator_row, read_setup};
 use chf_core::Command;
 use std::alloc::Global;
