@@ -6,8 +6,7 @@ ghost use Rattle.charging.specs.Routing.{below, body_problem, by_method, by_oper
 use crate::item::Method;
 use crate::line_items::after_word;
 use charging_json::{cause_of, read_request};
-use chf_rows::piece_length;
-use rows::number;
+use rows::{number, piece_length};
 use std::alloc::{AllocError, Global};
 use units::{
     Cause, JsonRefusal, Operation, OutOfMemory, Problem, Reply, Request, Text, copy, name_of_cause,
