@@ -1,4 +1,4 @@
-use ber::read_tlv;
+use ber::{Anything, read};
 use std::alloc::{AllocError, Global};
 
 // A charging record of one container: 139 octets.
@@ -23,7 +23,7 @@ fn records(alloc: Global, count: u64) -> Result<Vec<u8>, AllocError> {
     Ok(bytes)
 }
 
-/// Reads that many records and counts their octets.
+/// Reads that many records, whose contents stay where they are, and counts their octets.
 pub fn read_records(alloc: Global, count: u64) -> Result<u64, AllocError> {
     let bytes = records(alloc, count)?;
     let mut at = 0usize;
@@ -31,7 +31,7 @@ pub fn read_records(alloc: Global, count: u64) -> Result<u64, AllocError> {
         let Some(rest) = bytes.get(at..) else {
             return Ok(0);
         };
-        match read_tlv(alloc, rest) {
+        match read(alloc, Anything, rest) {
             Ok((_, length)) => at = at.saturating_add(length),
             Err(_) => return Ok(0),
         }

@@ -71,6 +71,11 @@ pub is_found : {X S : Type 0} (r : Rules S) (s : S) (bytes : List ℕ) (view : X
 is_found r s bytes view (Ok x) h = element_found r s bytes (view x) h
 is_found r s bytes view (Err e) h = tt
 
+-- the same without the grammar
+pub is_spelled : {X S : Type 0} (r : Rules S) (s : S) (bytes : List ℕ) (view : X → Element × ℕ) (result : Result X BerRefusal) → Gives view result (element_at r s bytes) → IfOk result (λ x. ((view x).1 ≤ length bytes) × Spells 16 (take (view x).1 bytes) (view x).0)
+is_spelled r s bytes view (Ok x) h = let read = element_found r s bytes (view x) h in (read.0, read.1)
+is_spelled r s bytes view (Err e) h = tt
+
 pub is_only : {X S : Type 0} (r : Rules S) (s : S) (bytes : List ℕ) (view : X → Element × ℕ) (result : Result X BerRefusal) → Gives view result (element_at r s bytes) → length bytes < 2 ^ 63
     → (e : Element) (n : ℕ) → n ≤ length bytes → Spells 16 (take n bytes) e → Admits r s e → Gives view result (Ok (e, n))
 is_only r s bytes view result h lt e n within spells admits = subst (λ (z : Result (Element × ℕ) ℕ). Gives view result z) (element_again r s bytes e n lt within spells admits) h

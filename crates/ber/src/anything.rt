@@ -1,3 +1,4 @@
+//! The grammar that lets every element stand.
 use crate::grammar::{Grammar, Step};
 use crate::tag::Tag;
 

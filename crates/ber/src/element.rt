@@ -1,5 +1,7 @@
+//! Elements at the front of octets, under a grammar and under none.
 ghost use Rattle.std.specs.Prelude.{◌≡◌, ◌<◌, ◌≤◌, ◌^◌, ◌++◌, ℕ, List, length, take, Ok, IfOk};
 ghost use Rattle.ber.specs.Element.{Element, element};
+ghost use Rattle.ber.specs.Borrowed.{seen};
 ghost use Rattle.ber.specs.Spelling.{Spells};
 ghost use Rattle.ber.specs.Grammar.{Admits};
 ghost use Rattle.ber.specs.Anything.{first_element};
@@ -11,12 +13,17 @@ use crate::grammar::Grammar;
 use crate::reading::item;
 use crate::refusal::BerRefusal;
 use crate::tlv::Tlv;
+use crate::tlv_ref::TlvRef;
 use std::alloc::Global;
 
 // The element at the front, and that memory holds the octets.
 #[tactic(auto, unfolding(crate::specs::Reading::element_at))]
-fn front<G: Grammar>(alloc: Global, grammar: G, bytes: &[u8]) -> Result<(Tlv, usize), BerRefusal>
-    ensures exact { Gives (λ x. (element x.0, x.1)) result (element_at G.rules grammar bytes.now) }
+fn front<'a, G: Grammar>(
+    alloc: Global,
+    grammar: G,
+    bytes: &'a [u8],
+) -> Result<(TlvRef<'a>, usize), BerRefusal>
+    ensures exact { Gives (λ x. (seen x.0, x.1)) result (element_at G.rules grammar bytes.now) }
     ensures bound { length bytes.now < 2 ^ 63 }
 {
     let (_, tlv, rest) = item(alloc, 16, grammar, 0, 0, bytes)?;
@@ -24,18 +31,31 @@ fn front<G: Grammar>(alloc: Global, grammar: G, bytes: &[u8]) -> Result<(Tlv, us
 }
 
 /// The element at the front of the octets that a grammar admits, and how many octets it takes, whatever follows; at most 16 elements within each other
-/// (X.690 8.1). Else the first octet of the element that has the fault that is met first in reading from the left.
-pub fn read<G: Grammar>(alloc: Global, grammar: G, bytes: &[u8]) -> Result<(Tlv, usize), BerRefusal>
+/// (X.690 8.1). Else the first octet of the element that has the fault that is met first in reading from the left. No contents are copied.
+pub fn read<'a, G: Grammar>(
+    alloc: Global,
+    grammar: G,
+    bytes: &'a [u8],
+) -> Result<(TlvRef<'a>, usize), BerRefusal>
     // The octet of the first fault, and what is read.
-    ensures exact { Gives (λ x. (element x.0, x.1)) result (element_at G.rules grammar bytes.now) }
+    ensures exact { Gives (λ x. (seen x.0, x.1)) result (element_at G.rules grammar bytes.now) }
     // What is read is spelled so, and the grammar admits it.
-    ensures found { IfOk result (λ x. (x.1 ≤ length bytes.now) × Spells 16 (take x.1 bytes.now) (element x.0) × Admits G.rules grammar (element x.0)) }
+    ensures found { IfOk result (λ x. (x.1 ≤ length bytes.now) × Spells 16 (take x.1 bytes.now) (seen x.0) × Admits G.rules grammar (seen x.0)) }
     // What is spelled so and admitted is read, unless memory is wanting.
-    ensures only { (e : Element) (n : ℕ) → n ≤ length bytes.now → Spells 16 (take n bytes.now) e → Admits G.rules grammar e → Gives {Y = Element × ℕ} (λ x. (element x.0, x.1)) result (Ok (e, n)) }
+    ensures only { (e : Element) (n : ℕ) → n ≤ length bytes.now → Spells 16 (take n bytes.now) e → Admits G.rules grammar e → Gives {Y = Element × ℕ} (λ x. (seen x.0, x.1)) result (Ok (e, n)) }
     // What is read can be written and read again.
-    ensures bounded { IfOk result (λ x. IsBounded 16 (element x.0)) }
+    ensures bounded { IfOk result (λ x. IsBounded 16 (seen x.0)) }
 {
     front(alloc, grammar, bytes)
+}
+
+// The element at the front, with octets of its own, and that memory holds the octets.
+fn front_tlv(alloc: Global, bytes: &[u8]) -> Result<(Tlv, usize), BerRefusal>
+    ensures exact { Gives (λ x. (element x.0, x.1)) result (first_element bytes.now) }
+    ensures bound { length bytes.now < 2 ^ 63 }
+{
+    let (tlv, count) = front(alloc, Anything, bytes)?;
+    Ok((tlv.to_tlv(alloc)?, count))
 }
 
 /// The element at the front of the octets, and how many octets it takes, whatever follows; at most 16 elements within each other (X.690 8.1).
@@ -50,7 +70,7 @@ pub fn read_tlv(alloc: Global, bytes: &[u8]) -> Result<(Tlv, usize), BerRefusal>
     // What is read can be written and read again.
     ensures bounded { IfOk result (λ x. IsBounded 16 (element x.0)) }
 {
-    read(alloc, Anything, bytes)
+    front_tlv(alloc, bytes)
 }
 
 /// No spelling of an element begins a spelling of another, nor of the same element, in any octets that memory can hold (X.690 8.1).

@@ -1,3 +1,4 @@
+//! What a grammar says as an element is read.
 ghost use Rattle.std.specs.Prelude.{◌≡◌};
 
 use crate::tag::Tag;

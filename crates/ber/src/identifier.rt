@@ -1,3 +1,4 @@
+//! Identifier octets.
 ghost use Rattle.std.specs.Prelude.{◌≡◌, ◌≤◌, length, IfSome};
 ghost use Rattle.std.specs.Option.{option_map};
 ghost use Rattle.ber.specs.Octets.{digits_at, high_at, tag_at};

@@ -1,3 +1,4 @@
+//! Length octets, and numbers in base 256.
 ghost use Rattle.std.specs.Prelude.{◌≡◌, ◌≤◌, length, IfSome};
 ghost use Rattle.std.specs.Option.{option_map};
 ghost use Rattle.ber.specs.Octets.{value_at, length_at};

@@ -1,3 +1,4 @@
+//! Why no element was read.
 ghost use Rattle.std.specs.Prelude.{◌≡◌};
 ghost use Rattle.ber.specs.declared.refusal.BerRefusal.TheVariants as refusal;
 
@@ -11,7 +12,7 @@ pub enum BerRefusal {
     /// The octets break the grammar (E21).
     BadRecord {
         /// The first octet, from 0, of the element that has the fault that is met first.
-        at: usize,
+        at: u64,
     },
 }
 

@@ -1,3 +1,4 @@
+//! Tags.
 /// What the identifier octets of an element say (X.690 8.1.2).
 #[derive(Clone, Copy, Debug, PartialEq, Eq)]
 pub struct Tag {

@@ -1,3 +1,4 @@
+//! An element as a value.
 ghost use Rattle.std.specs.Prelude.{◌≡◌};
 ghost use Rattle.std.specs.Option.{option_map};
 ghost use Rattle.ber.specs.Element as elements_of;

@@ -1,3 +1,4 @@
+//! Elements written with the fewest octets.
 ghost use Rattle.std.specs.Prelude.{◌≡◌, ◌++◌, ◌<◌, ◌≤◌, ◌^◌, length, Ok, OnOk, IfOk, List, ℕ};
 ghost use Rattle.ber.specs.Element.{element};
 ghost use Rattle.ber.specs.Spelling.{Spells};

@@ -1,4 +1,14 @@
 //! The commands, from the words of the command line and the bytes of the input to the bytes of the output.
+//!
+//! What it promises: the clauses of the top call `charging`: which status comes when, and what is written then.
+//!
+//! How it is built: `top` is the same for all commands; `words` and `parsing` read the words; `csv_rows`,
+//! `row_items`, `line_items`, `plain_rows` and `item` make a list of items of the input; `accepted` finds the setup
+//! or the first item that is not accepted; `answering` gives each item to the machine, `routing` says what a
+//! message asks, `responses` and `account_lines` print; `meter_rows` and `lines` are the command `meter`.
+//!
+//! Where a rule goes: a command is one more variant of `Task`, and a case each in `task_of`, `Prints`, `Accepts`,
+//! `Refuses` and `output_of_bytes`; a kind of message goes into `Routing` and `routing`.
 #![tactic(auto)]
 
 mod accepted;

@@ -1,4 +1,17 @@
 //! Charging messages as JSON, both ways (TS 32.291, Nchf_ConvergedCharging).
+//!
+//! What it promises: reading is one function of the JSON value (`request_of`, `reply_of`), which gives the message
+//! or its first fault in the profile's order; what is written is the compact text of the message's value, and reads
+//! back for every value in the ranges of its format.
+//!
+//! How it is built: values of JSON are seen as `Data` of `serde_json`; a reader of one field is a function on
+//! `Data`, and its Rust function has that function as its one clause. A source file stands beside each file of
+//! definitions.
+//!
+//! Where a rule goes: a field of a request is its reading in `specs/Request` at its place in the chain, one
+//! function and one line of `request_reader`; its writing in `request_fields` and `request_value`; its range in
+//! `FitsRequest`. A field within an entry goes the same way through `Usage`, a field of a reply through `Reply`. A
+//! trigger type is a line of both tables of `rules` and `triggers`.
 #![tactic(auto)]
 
 mod body;
@@ -16,10 +29,10 @@ mod rules;
 mod triggers;
 mod usage;
 
-pub use cause::cause_text;
+pub use cause::{cause_by, cause_of};
 pub use location::session_location;
 pub use reply_reader::read_reply;
-pub use reply_writer::write_reply;
+pub use reply_writer::{reply_location, reply_status, write_reply};
 pub use request_reader::read_request;
 pub use request_writer::write_request;
 

@@ -1,7 +1,7 @@
-use crate::{cause_text, read_reply, read_request, session_location, write_reply, write_request};
+use crate::{cause_of, read_reply, read_request, session_location, write_reply, write_request};
 use std::alloc::{AllocError, Global};
 use std::test::Fail;
-use units::{JsonRefusal, Operation, Reply};
+use units::{JsonRefusal, Operation, Reply, name_of_cause};
 
 // The fields of a Create that is right.
 const REQUEST: [(&str, &str); 5] = [
@@ -489,7 +489,11 @@ fn request_outcome(alloc: Global, operation: Operation, body: &[u8]) -> Result<S
             }
             Ok(text)
         }
-        Err(refusal) => Ok(refusal_text(alloc, cause_text(operation, &refusal), &refusal)?),
+        Err(refusal) => Ok(refusal_text(
+            alloc,
+            name_of_cause(cause_of(operation, &refusal)),
+            &refusal,
+        )?),
     }
 }
 
@@ -617,10 +621,10 @@ fn nested(alloc: Global, depth: usize) -> Result<String, AllocError> {
     )
 }
 
-fn cause_of(alloc: Global, body: &[u8]) -> &'static str {
+fn word_of(alloc: Global, body: &[u8]) -> &'static str {
     match read_request(alloc, Operation::Create, body) {
         Ok(_request) => "read",
-        Err(refusal) => cause_text(Operation::Create, &refusal),
+        Err(refusal) => name_of_cause(cause_of(Operation::Create, &refusal)),
     }
 }
 
@@ -633,13 +637,13 @@ fn keeps_to_the_bounds_of_lists_and_nesting(rt: HostRuntime) -> Result<(), Fail>
     for (count, wanted) in [(1000, "read"), (1001, "OPTIONAL_IE_INCORRECT")] {
         let entries = many(alloc, "[", entry, count, "]")?;
         assert_eq!(rt;
-            cause_of(alloc, entries.as_bytes()),
+            word_of(alloc, entries.as_bytes()),
             wanted,
             "{count} entries"
         );
         let containers = many(alloc, before, container, count, "]}]")?;
         assert_eq!(rt;
-            cause_of(alloc, containers.as_bytes()),
+            word_of(alloc, containers.as_bytes()),
             wanted,
             "{count} containers"
         );
@@ -647,7 +651,7 @@ fn keeps_to_the_bounds_of_lists_and_nesting(rt: HostRuntime) -> Result<(), Fail>
     for (depth, wanted) in [(126, "read"), (127, "INVALID_MSG_FORMAT")] {
         let text = nested(alloc, depth)?;
         assert_eq!(rt;
-            cause_of(alloc, text.as_bytes()),
+            word_of(alloc, text.as_bytes()),
             wanted,
             "{depth} lists in an object"
         );
@@ -656,11 +660,11 @@ fn keeps_to_the_bounds_of_lists_and_nesting(rt: HostRuntime) -> Result<(), Fail>
     let bytes = whole.as_bytes();
     for n in 0..bytes.len() {
         assert_eq!(rt;
-            cause_of(alloc, &bytes[..n]),
+            word_of(alloc, &bytes[..n]),
             "INVALID_MSG_FORMAT",
             "cut at {n}"
         );
     }
-    assert_eq!(rt; cause_of(alloc, b"{\"a\":\"\xff\"}"), "INVALID_MSG_FORMAT");
+    assert_eq!(rt; word_of(alloc, b"{\"a\":\"\xff\"}"), "INVALID_MSG_FORMAT");
     Ok(())
 }

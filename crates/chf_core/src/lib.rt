@@ -1,9 +1,24 @@
 //! The charging function's machine: commands, what is decided on each, and what is kept of them.
+//!
+//! What it promises: over the list of commands, newest first, `decide` answers the order of checks
+//! (`specs/Decisions`) and gives a plan with the outcome (`specs/Outcomes`), and `commit` appends that command
+//! without memory. A caller hands `IsReady` on from `decide` to `commit` and needs nothing of what is in it. The
+//! laws (`laws`) speak of every list of commands: first replies, the ledger, the money, use within grants.
+//!
+//! What it means stands in `specs/`: `Operator` (setup, subscribers, accounts, top-ups), `Sessions` and `Keys`,
+//! `Effect` (charges, give-backs, grants), `Money`, `Decisions`, `Outcomes`. What is kept beside the list is in
+//! `specs/Caches`, tied to it key by key.
+//!
+//! How it is built: `chf` has the public calls; `reads` look-ups; `verdict` the order of checks; `trial` and
+//! `reply` work the first reply out without a change to the accounts; `plan` makes all the memory; `commit` has one
+//! function for each command; `effect`, `give_back`, `grants` and `asks` are what a request does to `Accounts`.
+//!
+//! Where a rule goes: a command is a case of each definition with one function in `commit` and its copies in
+//! `plan`; a check goes into `Decisions` and `verdict`; a step of a request's effect into `Effect.used_by`,
+//! `use_request` and the trial; a table that is kept into `Caches` with its line in each commit.
 #![tactic(auto)]
 
 mod asks;
-#[cfg(test)]
-mod cases;
 mod chf;
 mod command;
 mod commit;
@@ -18,30 +33,16 @@ mod laws;
 mod names;
 mod numbered;
 mod operator;
-#[cfg(test)]
-mod plain;
-#[cfg(test)]
-mod plain_accounts;
-#[cfg(test)]
-mod plain_decision;
-#[cfg(test)]
-mod plain_keys;
 mod plan;
 mod reads;
 mod refusal;
 mod reply;
-#[cfg(test)]
-mod said;
 mod session;
 mod setup;
-#[cfg(test)]
-mod steps;
 mod subscription;
 mod target;
 mod trial;
 mod verdict;
-#[cfg(test)]
-mod words;
 
 pub use chf::Chf;
 pub use command::{Command, Outcome};
@@ -52,6 +53,3 @@ pub use laws::{
 };
 pub use refusal::ChfRefusal;
 pub use setup::ChfSetup;
-
-#[cfg(test)]
-mod tests;

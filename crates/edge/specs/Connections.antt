@@ -1,5 +1,5 @@
 -- What a device that tells says of its connections and openings (this product's own).
-use Rattle.std.specs.Prelude.{ℕ, ◌+◌, Bool, true, false, ◌||◌, List, [], ◌∷◌, ◌++◌, length, take, drop, Option, Result, Ok, Err, ◌≡◌, Some, None, ⊤, option_map}
+use Rattle.std.specs.Prelude.{ℕ, Bool, true, false, ◌||◌, List, [], ◌∷◌, ◌++◌, length, take, drop, Option, Result, Ok, Err, None}
 
 -- one connection: to whom, the bytes read, left to read and written, and whether a read and whether a write on it failed
 pub record Connection : Type 0 where

@@ -2,3 +2,10 @@ pub mod Faults
 pub mod Connections
 pub mod Memory
 pub mod Streams
+pub mod Reading
+pub mod Disk
+pub mod Stored
+pub mod StoredImages
+pub mod DiskScript
+pub mod MemDisks
+pub mod FileDisks

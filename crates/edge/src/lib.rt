@@ -1,6 +1,17 @@
-//! What the outside gives and takes: sources and sinks, each with a count of its faults.
+//! What the outside gives and takes: sources, sinks and disks, each with a count of its faults.
+//!
+//! Each device is a trait whose ghost members are what it may tell, and a failure comes only where its count of faults
+//! rose. A form in memory tells all, and its methods say exactly when they fail and what they leave, by a script of its
+//! calls. An adapter over the system tells nothing of content, and is believed to do what its trait says. A new device
+//! takes a trait, a form in memory and an adapter, each in a file of its own.
 #![tactic(auto)]
 
+mod disk;
+mod disk_script;
+mod disk_store;
+mod epoch_text;
+mod file_disk;
+mod memory_disk;
 mod memory_sink;
 mod memory_source;
 mod reading;
@@ -10,6 +21,9 @@ mod stream_source;
 mod traits;
 mod writing;
 
+pub use disk::{Disk, DiskRefusal};
+pub use file_disk::FileDisk;
+pub use memory_disk::MemDisk;
 pub use memory_sink::MemSink;
 pub use memory_source::MemSource;
 pub use reading::{ReadEnd, read_all};

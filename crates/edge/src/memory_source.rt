@@ -1,9 +1,10 @@
-ghost use Rattle.std.specs.Prelude.{◌≡◌, ◌≢◌, ◌↔◌, ◌^◌, ◌≤◌, length, take, min, Contains, IsErr, IfOk, OnErr, OnOk, Some, None};
+//! Bytes in memory as a source.
+ghost use Rattle.std.specs.Prelude.{◌≡◌, length, take, min, IfOk, Some, None};
 ghost use Rattle.std.specs.Io.{ReadsAtMost};
 ghost use Rattle.std.specs.Io.KnownBytes.{ReadConsumes};
-ghost use Rattle.edge.specs.Faults.{FailsOnlyWithFault, next_count};
+ghost use Rattle.edge.specs.Faults.{FailsOnlyWithFault};
 ghost use Rattle.edge.specs.Connections.{untold};
-ghost use Rattle.edge.specs.Memory.{after_failure, after_success, unplayed};
+ghost use Rattle.edge.specs.Memory.{Plays, unplayed};
 
 use crate::script::Script;
 use crate::traits::{Counted, Failed, Source, Stream};
@@ -41,26 +42,6 @@ impl MemSource {
             script: Script::new(alloc, fails)?,
         })
     }
-
-    /// What `read` does, in terms of the script.
-    pub fn read_next(&mut self, into: &mut [u8]) -> Result<usize, Failed>
-        ensures bound { ReadsAtMost result into.new }
-        ensures bytes { ReadConsumes (Some self.old.left) (Some self.new.left) result into.new }
-        ensures cause { FailsOnlyWithFault self.old.script.faults self.new.script.faults result }
-        ensures fills { IfOk result (λ n. n ≡ min (length self.old.left) (length into.new)) }
-        ensures scripted { IsErr result ↔ Contains self.old.script.fails (next_count self.old.script.calls) }
-        ensures succeeded { OnOk result (self.new.script ≡ after_success self.old.script) }
-        ensures failed { OnErr result (self.new.script ≡ after_failure self.old.script) }
-    {
-        if self.script.fails_next() {
-            return Err(self.script.fail());
-        }
-        self.script.succeed();
-        let (_, rest) = self.bytes.split_at(self.at);
-        let count = copy_front(rest, into);
-        self.at += count;
-        Ok(count)
-    }
 }
 
 impl Counted for MemSource {
@@ -80,8 +61,22 @@ impl Stream for MemSource {
 }
 
 impl Source for MemSource {
-    fn read(&mut self, into: &mut [u8]) -> Result<usize, Failed> {
-        self.read_next(into)
+    /// Reads as much as there is and fits; it fails exactly where the script says so.
+    fn read(&mut self, into: &mut [u8]) -> Result<usize, Failed>
+        ensures bound { ReadsAtMost result into.new }
+        ensures bytes { ReadConsumes (Some self.old.left) (Some self.new.left) result into.new }
+        ensures cause { FailsOnlyWithFault self.old.script.faults self.new.script.faults result }
+        ensures whole { IfOk result (λ n. n ≡ min (length self.old.left) (length into.new)) }
+        ensures script { Plays self.old.script self.new.script ⊥ result }
+    {
+        if self.script.fails_next() {
+            return Err(self.script.fail());
+        }
+        self.script.succeed();
+        let (_, rest) = self.bytes.split_at(self.at);
+        let count = copy_front(rest, into);
+        self.at += count;
+        Ok(count)
     }
 }
 

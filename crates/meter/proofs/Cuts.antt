@@ -15,7 +15,7 @@ use Rattle.meter.proofs.Runs.{cut_more, cut_join, widest_more, widest_join, Stay
 use Rattle.meter.proofs.After.{JoinsAt, OpensAt, after_is, open_last, joins_safe, joins_not}
 
 -- switches that the horizon allows for are unsafe hours
-pub safe_between : (h : Option Horizon) (switches : ℕ → Bool) (after until : ℕ) → AreForeseen h switches → NoSwitchWithin (is_unsafe h) after until → NoSwitchWithin switches after until
+safe_between : (h : Option Horizon) (switches : ℕ → Bool) (after until : ℕ) → AreForeseen h switches → NoSwitchWithin (is_unsafe h) after until → NoSwitchWithin switches after until
 safe_between h switches after until known none moment later before = by (switches moment) refl
   where
     by : (b : Bool) → switches moment ≡ b → b ≡ false
@@ -91,11 +91,12 @@ grows Cut s r g rs numbered more cut = by (r.group == g) refl (after_is s r)
         (subst (λ l. Cut (reports_of g rs) l) (sym (other (eqb-false r.group g e) which)) cut)
 
 -- a cut under switches that the horizon allows for
+pub join_cut : (switches : ℕ → Bool) (h : Option Horizon) (rs : List Report) (front : List Container) (c : Container) (r : Report) → AreForeseen h switches → may_join h c r ≡ true → IsCut switches rs (front ++ c ∷ []) → IsCut switches (rs ++ r ∷ []) (front ++ extended c r ∷ [])
+join_cut switches h rs front c r known may cut = let safe = joins_safe h c r may in cut_join switches rs front c r cut (safe_between h switches c.last r.moment known safe.0)
+
 cut_grows : (switches : ℕ → Bool) (s : Contents) (r : Report) → AreForeseen (horizon_of s r.group) switches → Grows (IsCut switches) s r
 cut_grows switches s r known = record {
-  joins = λ rs front c is may cut.
-      let safe = joins_safe (horizon_of s r.group) c r may in
-      cut_join switches rs front c r cut (safe_between (horizon_of s r.group) switches c.last r.moment known safe.0);
+  joins = λ rs front c is may cut. join_cut switches (horizon_of s r.group) rs front c r known may cut;
   opens = λ rs lsn may_not cut. cut_more switches rs (containers_of r.group s.containers) r lsn cut;
 }
 

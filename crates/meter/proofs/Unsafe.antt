@@ -1,5 +1,5 @@
 -- The least unsafe hour is the least.
-use Rattle.std.proofs.Common.{◌≡◌, ℕ, ◌+◌, ◌*◌, ◌/◌, ◌%◌, ◌<◌, ◌≤◌, ◌&&◌, not, Bool, true, false, cond, nat_lt, nat_le, Option, Some, None, refl, sym, ◌∙◌, arith, eq-eqb}
+use Rattle.std.proofs.Common.{◌≡◌, ℕ, ◌+◌, ◌*◌, ◌/◌, ◌%◌, ◌<◌, ◌≤◌, ◌&&◌, not, Bool, true, false, cond, nat_lt, Option, Some, None, refl, sym, ◌∙◌, arith, eq-eqb}
 use Rattle.std.specs.Option.{option_map}
 use Rattle.std.proofs.lemmas.Bool.Decides.{nat_tests}
 use Rattle.std.proofs.lemmas.Bool.{eqb-true}
@@ -113,9 +113,3 @@ unsafe_is_none horizon after until none = by (has_unsafe horizon after until) re
     by : (b : Bool) → has_unsafe horizon after until ≡ b → b ≡ false
     by false e = refl
     by true e = let some = some_unsafe horizon after until e in sym some.3 ∙ none some.0 some.1 some.2
-
--- a later hour begins in between
-pub hour_inside : (after until : ℕ) → nat_le (until / 3600) (after / 3600) ≡ false → SwitchWithin whole_hour after until
-hour_inside after until apart =
-    let later : after / 3600 < until / 3600 = grind (arith, nat_tests, apart) in
-    (3600 * (until / 3600), omega (arith, later), omega arith, next_whole (until / 3600))

@@ -4,3 +4,4 @@ pub mod Joining
 pub mod Admission
 pub mod Meter
 pub mod Caches
+pub mod Laws

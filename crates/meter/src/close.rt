@@ -1,3 +1,4 @@
+//! How a container was closed.
 use units::{Moment, TriggerType};
 
 /// How a container was closed (TS 32.255, 5.2.1).

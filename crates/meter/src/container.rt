@@ -1,3 +1,4 @@
+//! One container and one report: whether it joins, and what comes of it.
 ghost use Rattle.std.specs.Prelude.{◌≡◌, ◌≤◌, ◌<◌, ◌+◌, ◌^◌};
 ghost use Rattle.meter.specs.Meter.{is_too_large, may_join, trigger_of, extended, opened};
 

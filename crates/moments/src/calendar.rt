@@ -1,3 +1,4 @@
+//! Dates and clock times as moments, and back.
 ghost use Rattle.std.specs.Prelude.{◌≡◌, ◌≤◌, ◌<◌, ◌+◌, ◌↔◌, ◌≢◌, ℕ, IsSome, IfNone, IfSome, Some, pos, ◌+ℤ◌, ◌-ℤ◌, ◌*ℤ◌, ◌≤ℤ◌};
 ghost use Rattle.jiff.specs.Words.{IsDate, IsWithin, epoch_day};
 ghost use Rattle.jiff_core.specs.Calendar.{days_from_civil};

@@ -1,3 +1,4 @@
+//! Time stamps of charging records: nine octets of decimal digits and an offset.
 ghost use Rattle.std.specs.Prelude.{ℕ, ◌≡◌, ◌≤◌, ◌<◌, IfSome, Some, slice_index};
 ghost use Rattle.moments.specs.Calendar.{IsWritten, IsZulu};
 ghost use Rattle.moments.specs.Stamp.{bcd_of, octet_of, full_year, shift_of, date_and_clock, stamp_time, zulu_octets, stamp_octets};

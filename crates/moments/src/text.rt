@@ -1,3 +1,4 @@
+//! Date times as text.
 ghost use Rattle.std.specs.Prelude.{ℕ, ◌≡◌, ◌≤◌, ◌<◌, IfSome, Some, option_map, option_and_then};
 ghost use Rattle.moments.specs.Calendar.{IsWritten, IsZulu};
 ghost use Rattle.moments.specs.Digits.{two_at};

@@ -18,7 +18,7 @@ use Rattle.quotas.specs.History.{octets_in, seconds_in, octets_used, seconds_use
 use Rattle.quotas.specs.declared.step.Step.TheVariants.{Answered}
 
 -- the use is the sum over the reports since the freezing of the request whose answer set the group, and over those since the
--- latest freezing; the last use is the latest report's; quota is given back where a trigger did so since the latest freezing;
+-- latest freezing, each at most 2^64 - 1; the last use is the latest report's; quota is given back where a trigger did so since the latest freezing;
 -- and the group is shut once the session ends
 pub record IsOfTheList (steps : List Step) : Type 0 where
   pub octets : (quota_after steps).octets ≡ capped (octets_used steps)

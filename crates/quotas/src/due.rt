@@ -1,3 +1,4 @@
+//! Which trigger is due: by the terms of a grant, and by the open container.
 ghost use Rattle.std.specs.Prelude.{◌≡◌};
 ghost use Rattle.std.specs.Option.{option_copied};
 ghost use Rattle.quotas.specs.Due.{first_by_terms, first_by_container};

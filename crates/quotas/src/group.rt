@@ -1,3 +1,4 @@
+//! A rating group, and each thing that may come to it.
 ghost use Rattle.std.specs.Prelude.{◌≡◌};
 ghost use Rattle.std.specs.Option.{option_copied};
 ghost use Rattle.quotas.specs.Standing.{state_of};

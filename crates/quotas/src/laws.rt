@@ -1,3 +1,4 @@
+//! What holds of all lists of what came to a group.
 ghost use Rattle.std.specs.Prelude.{◌≡◌, ℕ, Bool, List, Option, Some};
 ghost use Rattle.units.specs.declared.report.Container.{Container};
 ghost use Rattle.units.specs.declared.trigger.TriggerType.{TriggerType};
@@ -9,8 +10,9 @@ ghost use Rattle.quotas.specs.Steps.{quota_after};
 ghost use Rattle.quotas.specs.Laws.{IsOfTheList, StandsByTheList, AsksByTheList, DueByTheList, FitsGranted, IsQuietAfter};
 
 /// A group's quota is what the whole list of what came to it says (TS 32.290, quota management; the law is this product's
-/// own): its use is the sum over the reports after the freezing of the request whose answer set it, its terms are those of
-/// the latest answer, it is asked from a wish to the answer, and what is due and the gate follow from these.
+/// own): its use is the sum over the reports after the freezing of the request whose answer set it, at most 2^64 - 1; its
+/// terms are those of the latest answer with an entry of it; it is asked from a wish to the answer; and what is due and the
+/// gate follow from these.
 pub fn by_whole_list()
     ensures sums { (steps : List Step) → IsOfTheList steps }
     ensures standing { (steps : List Step) → StandsByTheList steps }
@@ -18,7 +20,8 @@ pub fn by_whole_list()
     ensures due { (steps : List Step) → FitsGranted (quota_after steps).standing → DueByTheList steps }
 {}
 
-/// After a trigger fired none is due at the same moment, so settling a group twice is settling it once (this product's own).
+/// After a trigger fired and the group's open container was closed none is due at the same moment, so settling a group twice
+/// is settling it once (this product's own).
 pub fn fires_once()
     ensures { (q : Quota) (open_container : Option Container) (unsafe_hour : Bool) (now : ℕ)
         (limits : Limits) (trigger : TriggerType)

@@ -1,3 +1,4 @@
+//! What an answer sets, what is left of it, and what ends it.
 ghost use Rattle.std.specs.Prelude.{◌≡◌};
 ghost use Rattle.quotas.specs.Standing.{granted_by, left_of, set_by, spent, state_of, terms_of, without};
 ghost use Rattle.quotas.specs.Gate.{gate_at};

@@ -1,3 +1,4 @@
+//! What callers see of a group: its state, its gate, and the limits of its containers.
 /// What a rating group may use (TS 32.290, quota management; the names are this product's own).
 #[derive(Clone, Copy, PartialEq, Eq, Debug)]
 pub enum State {

@@ -1,3 +1,4 @@
+//! What may come to a group, as a value.
 use units::{Moment, TriggerType, UnitInfo};
 
 /// What may come to a rating group; the calls of `Group` by their names (this product's own).

@@ -11,5 +11,4 @@ pub mod Steps
 pub mod Steady
 pub mod Ranges
 pub mod Costs
-pub mod Walk
 pub mod Reserves

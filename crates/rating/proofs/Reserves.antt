@@ -15,7 +15,9 @@ use Rattle.rating.specs.Tariff.{GroupTariff, extended, tariff, tariff_of, tariff
 use Rattle.rating.specs.Grammar.{suits, may_extend_some, may_follow, first_bad, read_on, groups_of}
 use Rattle.rating.specs.Price.{hour_of, in_time, last_of, period_at, cost, price}
 use Rattle.units.specs.declared.answer.Code.TheVariants.{NotApplicable}
-use Rattle.rating.specs.Grant.{asked, granted, is_managed, no_quota, quota, top_price, unit_price, wish_of}
+use Rattle.units.specs.declared.request.Ask.{Ask}
+use Rattle.rating.specs.declared.grant.Grant.{Grant}
+use Rattle.rating.specs.Grant.{asked, grant, granted, is_managed, no_quota, quota, top_price, unit_price, wish_of}
 use Rattle.rating.specs.Laws.{units_used, GrantsAreCovered, PricesAreBounded}
 use Rattle.rating.specs.Caches.{AreSound}
 use Rattle.rating.proofs.Rows.{tariff_group, tariff_price, append_none}
@@ -132,6 +134,19 @@ reserve_pays rows good group t is managed up down seconds moment =
     let fitting : All (Fitting t.terms.kind (top_price t.terms.kind t.periods)) t.periods = λ k d l. record { fits = suit k d l; below = below_top t.terms.kind t.periods k d l } in
     let held = held_all (Fitting t.terms.kind (top_price t.terms.kind t.periods)) t.periods (hour_of (in_time moment)) fitting in
     subst (λ o. cost (period_at (hour_of (in_time moment)) (periods_by o)) up down seconds ≤ units_used t.terms.kind up down seconds * top_price t.terms.kind t.periods) (sym is) (cost_held t.terms.kind (top_price t.terms.kind t.periods) up down seconds (period_at (hour_of (in_time moment)) t.periods) managed held)
+
+-- what a grant sets aside pays for the units that it grants
+pub grant_pays : (rows : List (List (List ℕ))) → first_bad [] rows ≡ None → (group : ℕ) (t : GroupTariff) → tariff rows group ≡ Some t → is_managed t.terms.kind ≡ true
+    → (free : ℕ) (ask : Ask) (up down seconds moment : ℕ) → units_used t.terms.kind up down seconds ≤ (grant rows group free ask).units
+    → price rows group up down seconds moment ≤ (grant rows group free ask).reserve
+grant_pays rows good group t is managed free ask up down seconds moment within =
+    let top = top_price t.terms.kind t.periods in
+    let q = quota (wish_of t.terms.chunk (asked t.terms.kind ask)) top free in
+    let g : grant rows group free ask ≡ q = ap (λ o. granted o free ask) is ∙ ap (λ b. if b then q else no_quota NotApplicable) managed in
+    let r : (grant rows group free ask).reserve ≡ (grant rows group free ask).units * top = ap (λ (x : Grant). x.reserve) g ∙ ap (λ (x : Grant). x.units * top) (sym g) in
+    let p = reserve_pays rows good group t is managed up down seconds moment in
+    let m = times_le top (units_used t.terms.kind up down seconds) (grant rows group free ask).units within in
+    omega (arith, r, p, m)
 
 -- a price is bounded by the amounts, since no unit costs more than 2 ^ 32
 cost_small : (up down seconds : ℕ) (o : Option Period) → IfSome o IsSmall → cost o up down seconds ≤ (up + down + seconds) * 2 ^ 32

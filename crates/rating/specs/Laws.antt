@@ -29,11 +29,18 @@ units_used Volume up down seconds = up + down
 units_used Time up down seconds = seconds
 units_used Offline up down seconds = 0
 
--- Where no row is bad, usage of a group with quotas costs at no moment more than its units at the top price, so that what is set aside for granted units pays for them.
+-- Where no row is bad, usage of a group with quotas costs at no moment more than its units at the top price.
 abbrev pub ReservesSuffice : List (List (List ℕ)) → Type 0
 ReservesSuffice rows =
     first_bad [] rows ≡ None → (group : ℕ) (t : GroupTariff) → tariff rows group ≡ Some t → is_managed t.terms.kind ≡ true
     → (up down seconds moment : ℕ) → price rows group up down seconds moment ≤ units_used t.terms.kind up down seconds * top_price t.terms.kind t.periods
+
+-- Where no row is bad, usage within the units of a grant costs at no moment more than what the grant sets aside.
+abbrev pub GrantsArePaid : List (List (List ℕ)) → Type 0
+GrantsArePaid rows =
+    first_bad [] rows ≡ None → (group : ℕ) (t : GroupTariff) → tariff rows group ≡ Some t → is_managed t.terms.kind ≡ true
+    → (free : ℕ) (ask : Ask) (up down seconds moment : ℕ) → units_used t.terms.kind up down seconds ≤ (grant rows group free ask).units
+    → price rows group up down seconds moment ≤ (grant rows group free ask).reserve
 
 -- Usage costs at most 2 ^ 32 grains for each octet and second.
 abbrev pub PricesAreBounded : List (List (List ℕ)) → Type 0

@@ -8,4 +8,3 @@ pub mod Runs
 pub mod Laws
 pub mod Caches
 pub mod Same
-pub mod Plain

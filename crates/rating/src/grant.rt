@@ -1,3 +1,4 @@
+//! What a rating group is granted.
 ghost use Rattle.std.specs.Prelude.{◌≡◌};
 ghost use Rattle.rating.specs.Grant.{no_quota, quota, units_of, wish_of};
 

@@ -1,5 +1,6 @@
+//! What holds of all tariffs.
 ghost use Rattle.std.specs.Prelude.{List, ℕ};
-ghost use Rattle.rating.specs.Laws.{GrantsAreCovered, NextSwitchesAreFirst, PricesAreBounded, PricesChangeAtSwitches, ReservesSuffice, SwitchesAreWholeHours};
+ghost use Rattle.rating.specs.Laws.{GrantsAreCovered, GrantsArePaid, NextSwitchesAreFirst, PricesAreBounded, PricesChangeAtSwitches, ReservesSuffice, SwitchesAreWholeHours};
 ghost use Rattle.rating.specs.Runs.{CutsArePricedRight, RunsArePricedRight};
 
 /// A law of all tariffs; it does nothing. A run of reports of a rating group with no switch of the group between their moments costs, as
@@ -18,10 +19,12 @@ pub fn prices_change_at_switches()
     ensures next { (rows : List (List (List ℕ))) → NextSwitchesAreFirst rows }
 {}
 
-/// A law of all tariffs; it does nothing. What is set aside for granted units is covered by the free money, and pays for them at any moment:
-/// usage of a group with quotas costs no more than its units at the top price (this product's own).
+/// A law of all tariffs; it does nothing. Usage of a group with quotas costs at no moment more than its units at the top price, so usage
+/// within the units of a grant costs at no moment more than what the grant sets aside, and that is within the free money (this product's
+/// own).
 pub fn reserves_suffice()
     ensures pay { (rows : List (List (List ℕ))) → ReservesSuffice rows }
+    ensures grants { (rows : List (List (List ℕ))) → GrantsArePaid rows }
     ensures covered { (rows : List (List (List ℕ))) → GrantsAreCovered rows }
 {}
 

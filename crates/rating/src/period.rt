@@ -1,3 +1,4 @@
+//! A period of a tariff.
 use units::Plain;
 
 /// A period of a tariff: from an hour of the UTC day to the next listed one, and the prices in it (this product's own).

@@ -1,3 +1,4 @@
+//! The rows that were read so far.
 ghost use Rattle.std.specs.Prelude.{◌≡◌, ◌+◌, ◌==◌, ◌&&◌, ◌++◌, ◌∷◌, [], ℕ, nat_eq, nat_lt, is_none, true, Ok, Some, None, Option, IfOk, OnOk, length, if◌then◌else◌};
 ghost use Rattle.std.specs.HashMap.{get};
 ghost use Rattle.rating.specs.Row.{IsInRange, IsSmall};

@@ -1,3 +1,4 @@
+//! Why rows are no tariff.
 use std::alloc::AllocError;
 use units::OutOfMemory;
 

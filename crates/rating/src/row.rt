@@ -1,3 +1,4 @@
+//! One row of a tariff.
 ghost use Rattle.std.specs.Prelude.{◌≡◌, IfSome};
 ghost use Rattle.rating.specs.Row.{tariff_row, group_row, price_row, IsInRange};
 

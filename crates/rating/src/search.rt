@@ -1,3 +1,4 @@
+//! Searches among the periods of a tariff, and the hours of moments.
 ghost use Rattle.std.specs.Prelude.{◌≡◌, ◌≤◌, ◌+◌, ◌*◌, ◌/◌, ◌&&◌, ℕ, All, IfSome, if◌then◌else◌, nat_le, nat_lt, slice_index_or};
 ghost use Rattle.std.specs.List.Sorted.{IsNonDecreasingBy};
 ghost use Rattle.rating.specs.declared.period.Period.{Period};

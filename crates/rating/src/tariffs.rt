@@ -1,3 +1,4 @@
+//! The tariffs of all rating groups.
 ghost use Rattle.std.specs.Prelude.{◌≡◌, ℕ, None, Some, [], nat_eq, IfOk, IfErr, option_copied, option_map};
 ghost use Rattle.std.specs.HashMap.{get};
 ghost use Rattle.units.specs.Answers.{IsOrNoMemory};

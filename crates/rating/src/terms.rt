@@ -1,3 +1,4 @@
+//! The terms of a rating group.
 use units::{Action, Plain};
 
 /// What the quotas of a rating group count (granted unit and offline charging: TS 32.291, 6.1.6.2.1.9 and 6.1.6.3.14).

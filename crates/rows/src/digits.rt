@@ -1,3 +1,4 @@
+//! Numerals: decimal digits, without a sign and without a leading zero.
 ghost use Rattle.std.specs.Prelude.{◌≡◌};
 ghost use Rattle.std.specs.Char.{is_ascii_digit};
 ghost use Rattle.std.specs.List.{list_all};

@@ -1,4 +1,9 @@
 //! Charging data requests of one session: their content, those that a CHF keeps, and the first reply to each.
+//!
+//! What it promises: both machines cite these definitions, so that what one end means by a request is what the
+//! other means: content (equal but for the retransmission indicator), first replies, how often a container is
+//! charged (`specs/`), and what events do to a session as a list of moves (`specs/Trace`), with what is read off
+//! it.
 #![tactic(auto)]
 
 mod content;

@@ -16,10 +16,8 @@ use Rattle.units.specs.Cut.{reports_of, containers_of, IsCut}
 use Rattle.meter.specs.declared.horizon.Horizon.{Horizon}
 use Rattle.meter.specs.Horizons.{AreForeseen}
 use Rattle.meter.specs.Joining.{may_join, trigger_of}
+use Rattle.meter.specs.Laws.{ReportsKeepCuts}
 use Rattle.quotas.specs.Quota.{used}
-use Rattle.meter.proofs.After.{joins_safe}
-use Rattle.meter.proofs.Cuts.{safe_between}
-use Rattle.meter.proofs.Runs.{cut_more, cut_join}
 use Rattle.sessions.specs.Trace.{Move}
 use Rattle.sessions.specs.Trace.Move.{Answers}
 use Rattle.smf_core.specs.declared.session.Why.TheVariants.{Refused as WasRefused}
@@ -215,8 +213,8 @@ record Takes (r : Report) (hs ks : List Holding) (horizon : Option Horizon) : Ty
   other : (group : ℕ) → (r.group == group) ≡ false → own group ks ≡ own group hs
   cut : (switches : ℕ → Bool) (rs : List Report) → AreForeseen horizon switches → IsCut switches rs (own r.group hs) → IsCut switches (rs ++ r ∷ []) (own r.group ks)
 
-takes : (horizon : Option Horizon) (r : Report) (hs : List Holding) → OpenAreLast hs → ((c : Container) → open_of r.group hs ≡ Some c → list_any (is_open_of r.group) hs ≡ true → may_join horizon c r ≡ true) → Takes r hs (joined r hs) horizon
-takes horizon r hs last may = at (list_any (is_open_of r.group) hs) refl
+takes : (laws : ReportsKeepCuts) (horizon : Option Horizon) (r : Report) (hs : List Holding) → OpenAreLast hs → ((c : Container) → open_of r.group hs ≡ Some c → list_any (is_open_of r.group) hs ≡ true → may_join horizon c r ≡ true) → Takes r hs (joined r hs) horizon
+takes laws horizon r hs last may = at (list_any (is_open_of r.group) hs) refl
   where
     at : (b : Bool) → list_any (is_open_of r.group) hs ≡ b → Takes r hs (cond b (map (extend_of r) hs) (hs ++ first_of (length hs + 1) r ∷ [])) horizon
     at true e =
@@ -225,21 +223,20 @@ takes horizon r hs last may = at (list_any (is_open_of r.group) hs) refl
           last = last_extended r hs last;
           other = λ group away. joins_other r group hs away;
           cut = λ switches rs known cut.
-              let safe = joins_safe horizon j.container r (may j.container j.is_open e) in
               subst (λ cs. IsCut switches (rs ++ r ∷ []) cs) (sym j.after)
-              (cut_join switches rs j.front j.container r (subst (λ cs. IsCut switches rs cs) j.before cut) (safe_between horizon switches j.container.last r.moment known safe.0));
+              (laws.joined horizon r switches rs j.front j.container known (may j.container j.is_open e) (subst (λ cs. IsCut switches rs cs) j.before cut));
         }
     at false e = record {
       last = last_pushed r.group hs (first_of (length hs + 1) r) refl e last;
       other = λ group away. opens_other group hs (first_of (length hs + 1) r) away;
       cut = λ switches rs known cut.
           subst (λ cs. IsCut switches (rs ++ r ∷ []) cs) (sym (opens r.group hs (first_of (length hs + 1) r) (eq-eqb r.group r.group refl)))
-          (cut_more switches rs (own r.group hs) r (length hs + 1) cut);
+          (laws.opened r switches rs (own r.group hs) (length hs + 1) cut);
     }
 
-pub counted_reported : (r : Report) (t : List Move) (u : List Report) (s : Session) (e : Entry) → entry_of r.group s.groups ≡ Some e → (r.number == expected_of r.group s) ≡ true → Reported t u s
+pub counted_reported : (laws : ReportsKeepCuts) (r : Report) (t : List Move) (u : List Report) (s : Session) (e : Entry) → entry_of r.group s.groups ≡ Some e → (r.number == expected_of r.group s) ≡ true → Reported t u s
     → Reported (closes_of r.moment (λ h. cond (is_open_of r.group h) (closes_before (horizon_in (entry_of r.group s.groups)) r (open_of r.group s.holdings)) None) s.holdings ++ t) (r ∷ u) (counted r s)
-counted_reported r t u s e found expected h = record {
+counted_reported laws r t u s e found expected h = record {
   numbered = λ group. numbered group (r.group == group) refl;
   expected = λ group. expects group (r.group == group) refl;
   last = made.last;
@@ -262,7 +259,7 @@ counted_reported r t u s e found expected h = record {
     same = same_mapped (close_of r.group r.moment o) s.holdings (close_of_same r.group r.moment o)
 
     made : Takes r closed (joined r closed) horizon
-    made = takes horizon r closed (last_same s.holdings closed same h.last) (λ c is some. open_joins horizon r s.holdings o refl some c is)
+    made = takes laws horizon r closed (last_same s.holdings closed same h.last) (λ c is some. open_joins horizon r s.holdings o refl some c is)
 
     before : (group : ℕ) (switches : ℕ → Bool) → AreAllowed (horizons_in group (closes_of r.moment (λ h. cond (is_open_of r.group h) o None) s.holdings ++ t)) switches → AreAllowed (horizons_in group t) switches
     before group switches allowed = subst (λ l. AreAllowed l switches) (closes_horizons r.moment (λ h. cond (is_open_of r.group h) o None) s.holdings t group) allowed

@@ -7,6 +7,7 @@ use Rattle.units.specs.declared.request.Operation.TheVariants.{Create}
 use Rattle.units.specs.Cut.{no_switch}
 use Rattle.meter.specs.declared.horizon.Horizon.{Horizon}
 use Rattle.meter.specs.Horizons.{is_within, AreForeseen}
+use Rattle.meter.specs.Laws.{ReportsKeepCuts}
 use Rattle.sessions.specs.Trace.{Move}
 use Rattle.sessions.specs.Trace.Move.{Freezes}
 use Rattle.smf_core.specs.declared.setup.SmfSetup.{SmfSetup}
@@ -27,19 +28,19 @@ use Rattle.smf_core.proofs.Traces.{StandsWhole, kept, created_whole, trace_is}
 use Rattle.smf_core.proofs.Reported.{Reported, quiet, asking_quiet, finished_reported, changed_quiet, detached_quiet, started_quiet, new_expected, new_horizon, no_horizon}
 use Rattle.smf_core.proofs.Recounted.{answered_reported, counted_reported}
 
-effect_reported : (event : SmfEvent) (setup : SmfSetup) (now number : ℕ) (t : List Move) (u : List Report) (s : Session) → touches event s ≡ true → IsNew event s → StandsWhole t s → Reported t u s
+effect_reported : (laws : ReportsKeepCuts) (event : SmfEvent) (setup : SmfSetup) (now number : ℕ) (t : List Move) (u : List Report) (s : Session) → touches event s ≡ true → IsNew event s → StandsWhole t s → Reported t u s
     → Reported (effect_moves now event s ++ t) (report_in setup now number event (Some s) ++ u) (effect now event s)
-effect_reported (Attach session subscriber groups moment) setup now number t u s on new w h = h
-effect_reported (Start session group moment) setup now number t u s on new w h = quiet t t u s (started group moment s) (started_quiet group t s (started group moment s) refl refl) h
-effect_reported (Count session r) setup now number t u s on new w h =
+effect_reported laws (Attach session subscriber groups moment) setup now number t u s on new w h = h
+effect_reported laws (Start session group moment) setup now number t u s on new w h = quiet t t u s (started group moment s) (started_quiet group t s (started group moment s) refl refl) h
+effect_reported laws (Count session r) setup now number t u s on new w h =
     let is : IsCounted r s = is_counted r s (new on) in
-    subst (λ b. Reported (effect_moves now (Count session r) s ++ t) (cond b (r ∷ []) [] ++ u) (effect now (Count session r) s)) (sym on) (counted_reported r t u s is.entry is.found is.expected h)
-effect_reported (Change session trigger moment) setup now number t u s on new w h =
+    subst (λ b. Reported (effect_moves now (Count session r) s ++ t) (cond b (r ∷ []) [] ++ u) (effect now (Count session r) s)) (sym on) (counted_reported laws r t u s is.entry is.found is.expected h)
+effect_reported laws (Change session trigger moment) setup now number t u s on new w h =
     quiet t (effect_moves now (Change session trigger moment) s ++ t) u s (changed trigger moment s) (changed_quiet trigger moment t s (changed trigger moment s) refl refl) h
-effect_reported (Tick moment) setup now number t u s on new w h = h
-effect_reported (Detach session abnormal moment) setup now number t u s on new w h =
+effect_reported laws (Tick moment) setup now number t u s on new w h = h
+effect_reported laws (Detach session abnormal moment) setup now number t u s on new w h =
     quiet t (effect_moves now (Detach session abnormal moment) s ++ t) u s (effect now (Detach session abnormal moment) s) (detached_quiet abnormal moment t s) h
-effect_reported (Answered session place reply) setup now number t u s on new w h = answered_reported now reply s.request t u s (sym w.0.unanswered) h
+effect_reported laws (Answered session place reply) setup now number t u s on new w h = answered_reported now reply s.request t u s (sym w.0.unanswered) h
 
 untouched : (event : SmfEvent) (setup : SmfSetup) (now number : ℕ) (s : Session) → touches event s ≡ false → report_in setup now number event (Some s) ≡ []
 untouched (Attach session subscriber groups moment) setup now number s off = refl
@@ -50,12 +51,12 @@ untouched (Tick moment) setup now number s off = refl
 untouched (Detach session abnormal moment) setup now number s off = refl
 untouched (Answered session place reply) setup now number s off = refl
 
-next_by : (b : Bool) (event : SmfEvent) (setup : SmfSetup) (now number : ℕ) (t : List Move) (u : List Report) (s : Session) → touches event s ≡ b → IsNew event s → StandsWhole t s → Reported t u s
+next_by : (laws : ReportsKeepCuts) (b : Bool) (event : SmfEvent) (setup : SmfSetup) (now number : ℕ) (t : List Move) (u : List Report) (s : Session) → touches event s ≡ b → IsNew event s → StandsWhole t s → Reported t u s
     → Reported (cond b (finish_moves setup now (effect now event s) ++ effect_moves now event s) [] ++ t) (report_in setup now number event (Some s) ++ u) (cond b (finished setup now (effect now event s)) s)
-next_by true event setup now number t u s on new w h =
+next_by laws true event setup now number t u s on new w h =
     subst (λ l. Reported l (report_in setup now number event (Some s) ++ u) (finished setup now (effect now event s))) (sym (append_assoc (finish_moves setup now (effect now event s)) (effect_moves now event s) t))
-    (finished_reported setup now (effect_moves now event s ++ t) (report_in setup now number event (Some s) ++ u) (effect now event s) (effect_reported event setup now number t u s on new w h))
-next_by false event setup now number t u s off new w h = subst (λ l. Reported t (l ++ u) s) (sym (untouched event setup now number s off)) h
+    (finished_reported setup now (effect_moves now event s ++ t) (report_in setup now number event (Some s) ++ u) (effect now event s) (effect_reported laws event setup now number t u s on new w h))
+next_by laws false event setup now number t u s off new w h = subst (λ l. Reported t (l ++ u) s) (sym (untouched event setup now number s off)) h
 
 fresh_reported : (setup : SmfSetup) (number : ℕ) (subscriber groups : List ℕ) (moment : ℕ) → Reported [] [] (fresh setup number subscriber groups moment)
 fresh_reported setup number subscriber groups moment = record {
@@ -93,9 +94,9 @@ attached setup now number (Tick moment) = (refl, refl)
 attached setup now number (Detach session abnormal moment) = (refl, refl)
 attached setup now number (Answered session place reply) = (refl, refl)
 
-both_kept : (setup : SmfSetup) → AreKept setup Both moves_of report_in
-both_kept setup = record {
-  next = λ now number event s t u is new h. ((kept setup).next now number event s t is new h.0, next_by (touches event s) event setup now number t u s refl new h.0 h.1);
+both_kept : (laws : ReportsKeepCuts) (setup : SmfSetup) → AreKept setup Both moves_of report_in
+both_kept laws setup = record {
+  next = λ now number event s t u is new h. ((kept setup).next now number event s t is new h.0, next_by laws (touches event s) event setup now number t u s refl new h.0 h.1);
   added = λ now number event. attached setup now number event;
 }
 
@@ -115,7 +116,7 @@ by_reports t u (Some s) h = record {
   cuts = h.1.cuts;
 }
 
-pub reports_run : (setup : SmfSetup) (events : List SmfEvent) (number : ℕ) → StandsByReports (trace setup events number) (reports setup events number) (session_of number (machine_after setup events).sessions)
-reports_run setup events number =
+pub reports_run : (laws : ReportsKeepCuts) (setup : SmfSetup) (events : List SmfEvent) (number : ℕ) → StandsByReports (trace setup events number) (reports setup events number) (session_of number (machine_after setup events).sessions)
+reports_run laws setup events number =
     subst (λ l. StandsByReports l (reports setup events number) (session_of number (machine_after setup events).sessions)) (sym (trace_is setup events number))
-    (by_reports (history moves_of setup events number) (history report_in setup events number) (session_of number (machine_after setup events).sessions) (over_both setup Both moves_of report_in (both_kept setup) events number))
+    (by_reports (history moves_of setup events number) (history report_in setup events number) (session_of number (machine_after setup events).sessions) (over_both setup Both moves_of report_in (both_kept laws setup) events number))

@@ -1,4 +1,4 @@
--- What is kept of a session for speed: only what is held is looked at as events come. No public clause names these.
+-- What is kept of a session for speed: only what is held is looked at as events come. Of the public clauses only those on plans name some of these.
 use Rattle.std.specs.Prelude.{◌≡◌, ℕ, ◌+◌, ◌-◌, nat_lt, Bool, if◌then◌else◌, Option, Some, None, List, [], ◌∷◌, ◌++◌, map, filter, length, slice_set, slice_index}
 use Rattle.units.specs.declared.trigger.TriggerType.{TriggerType}
 use Rattle.smf_core.specs.declared.session.Holding.{Holding}

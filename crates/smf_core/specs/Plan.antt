@@ -100,7 +100,8 @@ abbrev pub AddedIsReady : Option KeptAs → List Session → ℕ → Type 0
 AddedIsReady None sessions room = Unit {0}
 AddedIsReady (Some k) sessions room = (place_in (numbers_of sessions) k.session.number ≡ None) × (0 < room)
 
--- a plan is the last that was made for a machine
+-- a plan fits to a machine: each of its changes fits to the session at its place, no session has the number of the one that it adds, and
+-- there is room for what they open and add. A plan of an earlier machine may fit too
 pub record IsReady (plan : SmfPlan) (s : Shown) : Type 0 where
   pub next : NextIsReady plan.next s.kept
   pub added : AddedIsReady plan.added s.machine.sessions s.room

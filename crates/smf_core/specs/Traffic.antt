@@ -1,5 +1,5 @@
 -- Reports, changes and ends of traffic (TS 32.255, 5.2.1).
-use Rattle.std.specs.Prelude.{ℕ, ◌+◌, ◌==◌, ◌||◌, nat_lt, Bool, false, if◌then◌else◌, Option, Some, None, List, [], ◌∷◌, ◌++◌, map, filter, length}
+use Rattle.std.specs.Prelude.{ℕ, ◌+◌, ◌^◌, ◌<◌, ◌==◌, ◌||◌, nat_lt, Bool, false, if◌then◌else◌, Option, Some, None, List, [], ◌∷◌, ◌++◌, map, filter, length}
 use Rattle.std.specs.List.{list_any}
 use Rattle.units.specs.declared.report.Report.{Report}
 use Rattle.units.specs.declared.report.Container.{Container}
@@ -29,6 +29,13 @@ closes_before horizon r (Some c) = if may_join horizon c r then None else Some (
 
 abbrev pub close_of : ℕ → ℕ → Option TriggerType → Holding → Holding
 close_of group moment trigger h = if is_open_of group h then close moment trigger h else h
+
+-- the sums of a container and a report are of their types
+pub record SumsFit (c : Container) (r : Report) : Type 0 where
+  pub up : c.up + r.up < 2 ^ 64
+  pub down : c.down + r.down < 2 ^ 64
+  pub seconds : c.seconds + r.seconds < 2 ^ 32
+  pub reports : c.reports + 1 < 2 ^ 32
 
 -- the report in the open container that is left, or in the next one
 abbrev pub extend_of : Report → Holding → Holding

@@ -1,3 +1,4 @@
+//! What an event changes of a session of which only what is held is kept.
 ghost use Rattle.std.specs.Prelude.{◌≡◌, ◌-◌, ◌++◌, IfOk, length, map, filter};
 ghost use Rattle.smf_core.specs.Draft.{effect_past};
 ghost use Rattle.smf_core.specs.Machine.{finished};

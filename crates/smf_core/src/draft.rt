@@ -1,3 +1,4 @@
+//! A session in the course of an event.
 ghost use Rattle.std.specs.Prelude.{◌≡◌, IfOk};
 ghost use Rattle.std.specs.Option.{option_copied};
 ghost use Rattle.smf_core.specs.Draft.{whole, course_in, request_after};

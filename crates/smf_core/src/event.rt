@@ -1,3 +1,4 @@
+//! What may come to the machine.
 use units::{List, Moment, Reply, Report, Text, TriggerType};
 
 /// What comes to the machine (TS 32.255, 5.2.1; TS 32.290, 5.3.2).

@@ -1,3 +1,4 @@
+//! Requests that are due, what they hold, and what is given up as too much.
 ghost use Rattle.std.specs.Prelude.{◌≡◌, ◌==◌, ◌&&◌, IfOk, OnOk, map, length};
 ghost use Rattle.std.specs.List.{list_any};
 ghost use Rattle.sessions.specs.Kept.{is_release};

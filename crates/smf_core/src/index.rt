@@ -1,3 +1,4 @@
+//! The places of the sessions by their numbers.
 ghost use Rattle.std.specs.Prelude.{◌≡◌, ◌<◌, ◌≤◌, ◌+◌, ◌++◌, [], ◌∷◌, ℕ, None, OnOk, IfSome, length, nat_eq};
 ghost use Rattle.std.specs.HashMap.{get, spare};
 ghost use Rattle.smf_core.specs.Index.{place_in, IsIndexed, AreApart, place_for};

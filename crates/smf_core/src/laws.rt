@@ -20,6 +20,7 @@ ghost use Rattle.smf_core.specs.Reports.{reports, StandsByReports};
 ghost use Rattle.smf_core.specs.Came.{steps};
 ghost use Rattle.smf_core.specs.Quotas.{StandsBySteps, NoneIsDue};
 
+use meter::reports_keep_cuts;
 use quotas::{by_whole_list, fires_once};
 
 /// A law of events; it does nothing. After any events each session is as its moves leave it: its requests are numbered 1, 2, 3, each
@@ -68,7 +69,9 @@ pub fn few_wait()
 pub fn containers_are_cuts()
     ensures { (setup : SmfSetup) (events : List SmfEvent) (number : ℕ)
         → StandsByReports (trace setup events number) (reports setup events number) (session_of number (machine_after setup events).sessions) }
-{}
+{
+    reports_keep_cuts();
+}
 
 /// A law of events; it does nothing. After any events the quota of a rating group is that of the whole list of what came to it: asking,
 /// freezings, answers, reports and triggers. So what is due and the gate are those of the terms of the latest answer with an entry of it

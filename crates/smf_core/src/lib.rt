@@ -1,4 +1,19 @@
 //! The machine of an SMF's charging trigger function: triggers, quotas, requests.
+//!
+//! What it promises: the machine is `machine_after setup events` (`specs/Machine`), newest event first; `plan` and
+//! `commit` together are `step`. What events did to one session is `trace` (`specs/Trace`), a list of the moves of
+//! `sessions`, which later events only make longer. The laws (`laws`) join the state to whole lists: requests,
+//! places of containers, cuts, quotas.
+//!
+//! How it is kept: each session keeps beside all its containers those that are held, with their places, and an
+//! event works on these alone, through a `Draft`, which makes a `Change` that `Kept::take` writes without memory.
+//! `merged` (`specs/Caches`) says how the held ones stand for the whole session; each function of an event goes
+//! through it.
+//!
+//! Where a rule goes: a check into `answer_in` (`specs/Machine`), `answer_at` (`specs/Lookup`) and `checks`; an
+//! effect into `effect` and a file beside `traffic`; a trigger's category or limit into `Rules` and `rules`; what a
+//! request holds into `Freeze` and `freeze`; its moves into `effect_moves`. Each is one more case in the proofs
+//! `Wide`, `Lengths`, `Past`, `Agreement`, `Later` and `Effects`.
 #![tactic(auto)]
 
 mod answers;
@@ -12,7 +27,6 @@ mod kept;
 mod laws;
 mod names;
 mod next;
-mod plain;
 mod plan;
 mod refusal;
 mod rules;
@@ -30,15 +44,12 @@ pub use laws::{
     requests_are_apart, requests_are_named, requests_hold, requests_in_order, requests_stand,
     settles_once,
 };
-pub use plain::{plain_after, plain_step};
 pub use plan::SmfPlan;
 pub use refusal::{Seen, SmfRefusal};
 pub use session::{Entry, Holding, Layer, Life, Machine, Place, Session, Why};
 pub use setup::SmfSetup;
 pub use smf::Smf;
 
-#[cfg(test)]
-mod test_draws;
 #[cfg(test)]
 mod test_rows;
 #[cfg(test)]

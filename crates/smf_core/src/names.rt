@@ -1,3 +1,4 @@
+//! Trigger types as they are written, and which of them are immediate.
 ghost use Rattle.std.specs.Prelude.{◌≡◌, IfOk};
 ghost use Rattle.smf_core.specs.Names.{name_of, same_type, is_immediate_by_default};
 

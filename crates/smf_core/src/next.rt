@@ -1,3 +1,4 @@
+//! The sessions that an event changes.
 ghost use Rattle.std.specs.Prelude.{◌≡◌, ◌<◌, IfOk, map, length, slice_set};
 ghost use Rattle.smf_core.specs.Machine.{next_session};
 ghost use Rattle.smf_core.specs.Lookup.{subject};

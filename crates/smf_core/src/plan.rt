@@ -1,3 +1,4 @@
+//! A plan: what an event makes of the machine, with all the memory that it takes.
 use crate::draft::{Course, Pending};
 use crate::kept::Kept;
 use crate::refusal::Seen;

@@ -1,3 +1,4 @@
+//! What the machine answers to an event.
 use quotas::Gate;
 use units::Moment;
 

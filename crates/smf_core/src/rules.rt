@@ -1,3 +1,4 @@
+//! The trigger rules of a session, by the latest answer that gave each.
 ghost use Rattle.std.specs.Prelude.{◌≡◌, nat_eq};
 ghost use Rattle.std.specs.List.{find};
 ghost use Rattle.smf_core.specs.Draft.{whole};

@@ -1,3 +1,4 @@
+//! The machine as a value: its sessions, and what each holds.
 use crate::setup::SmfSetup;
 use meter::Horizon;
 use quotas::Group;

@@ -1,3 +1,4 @@
+//! Triggers that are due at a moment, fired until none is.
 ghost use Rattle.std.specs.Prelude.{◌≡◌, IfOk, OnOk, map};
 ghost use Rattle.std.specs.List.{list_any};
 ghost use Rattle.smf_core.specs.Draft.{whole};

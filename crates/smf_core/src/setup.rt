@@ -1,3 +1,4 @@
+//! How the machine is set up.
 ghost use Rattle.std.specs.Prelude.{◌≡◌, IfOk};
 
 use units::{Handling, OutOfMemory, Text, copy};

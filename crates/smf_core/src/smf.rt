@@ -1,3 +1,4 @@
+//! The machine: an event is planned, and then committed.
 ghost use Rattle.std.specs.Prelude.{◌≡◌, ◌<◌, ◌-◌, ◌++◌, [], IfOk, IfErr, OnOk, min, map, option_map, slice_get, vec_len, vec_capacity};
 ghost use Rattle.std.specs.Option.{option_copied};
 ghost use Rattle.smf_core.specs.declared.refusal.Seen.TheVariants.{New, Known as AlreadyKnown};
@@ -182,8 +183,8 @@ impl Smf {
         plan.seen
     }
 
-    /// Takes the step that was planned; it takes no memory and can't fail. The plan is the last one that `plan` made on this machine,
-    /// with nothing committed since.
+    /// Takes the step that was planned; it takes no memory and can't fail. The plan has to fit to the machine as it stands: the last one
+    /// that `plan` made on it fits, with nothing committed since.
     pub fn commit(&mut self, plan: SmfPlan) -> Seen
         requires { IsReady plan self.old }
         ensures step { self.new.machine ≡ applied plan self.old.machine }

@@ -1,3 +1,4 @@
+//! What an event makes of the sessions that it touches, and the session that it adds.
 ghost use Rattle.std.specs.Prelude.{◌≡◌, ◌==◌, ◌++◌, IfOk, OnOk, map, List};
 ghost use Rattle.smf_core.specs.Draft.{whole, effect_past, listed};
 ghost use Rattle.smf_core.specs.Freeze.{with_request};

@@ -1,6 +1,5 @@
 //! Events as rows of words, and what is seen of a machine as words; for tests.
-use crate::checks::{expected, gate};
-use crate::{Machine, Place, Seen, Session, Smf, SmfEvent, SmfRefusal, SmfSetup};
+use crate::{Seen, Smf, SmfEvent, SmfRefusal, SmfSetup};
 use quotas::Gate;
 use std::alloc::Global;
 use std::test::Fail;
@@ -31,8 +30,8 @@ fn small(text: &str) -> u32 {
     text.parse::<u32>().unwrap_or(0)
 }
 
-/// So many seconds after the Attach, which is 245 seconds after an hour.
-pub fn at(seconds: u64) -> Moment {
+// So many seconds after the Attach, which is 245 seconds after an hour.
+fn at(seconds: u64) -> Moment {
     Moment::new(ATTACHED.saturating_add(seconds)).unwrap_or(Moment::first())
 }
 
@@ -45,8 +44,8 @@ fn trigger(text: &str) -> TriggerType {
     TriggerType::Final
 }
 
-/// A setup; with many, a request is not due for the number of changes.
-pub fn setup(alloc: Global, many: bool) -> Result<SmfSetup, Fail> {
+// A setup; with many, a request is not due for the number of changes.
+fn setup(alloc: Global, many: bool) -> Result<SmfSetup, Fail> {
     Ok(SmfSetup {
         name: Text::from_text(alloc, "smf1")?,
         failover: true,
@@ -234,8 +233,8 @@ fn word(answer: &Result<Seen, SmfRefusal>) -> &'static str {
     }
 }
 
-/// Takes an event by a plan.
-pub fn taken(alloc: Global, smf: &mut Smf, event: &SmfEvent) -> Result<Seen, SmfRefusal> {
+// Takes an event by a plan.
+fn taken(alloc: Global, smf: &mut Smf, event: &SmfEvent) -> Result<Seen, SmfRefusal> {
     let plan = smf.plan(alloc, event)?;
     let seen = Smf::seen(&plan);
     let committed = smf.commit(plan);
@@ -285,86 +284,29 @@ fn show(smf: &Smf, text: &mut String) -> Result<(), Fail> {
     Ok(())
 }
 
-fn take_words(
-    alloc: Global,
-    smf: &mut Smf,
-    words: &[&str],
-    events: &mut Vec<SmfEvent>,
-) -> Result<&'static str, Fail> {
+fn take_words(alloc: Global, smf: &mut Smf, words: &[&str]) -> Result<&'static str, Fail> {
     let event = event(alloc, smf, words)?;
-    let answer = taken(alloc, smf, &event);
-    events.push(event)?;
-    Ok(word(&answer))
+    Ok(word(&taken(alloc, smf, &event)))
 }
 
-/// What comes of a row of events, with a machine after them and all of them: the answers, and what is seen at the end. A word `fill`
-/// makes so many containers of group 10, each closed by a change.
-pub fn outcome(alloc: Global, many: bool, row: &str) -> Result<(String, Smf, Vec<SmfEvent>), Fail> {
+/// What comes of a row of events: the answers, and what is seen at the end. A word `fill` makes so many containers of group 10,
+/// each closed by a change.
+pub fn outcome(alloc: Global, many: bool, row: &str) -> Result<String, Fail> {
     let mut smf = Smf::new(alloc, &setup(alloc, many)?)?;
-    let mut events = Vec::new(alloc);
     let mut text = String::new(alloc);
     for part in row.split(';') {
         let words: Vec<&str> = part.split_whitespace().collect(alloc)?;
         if let ["fill", count, moment] = words.as_slice() {
             for _ in 0..small(count) {
                 let report = ["count", "+", "10", "1", "1", "1", moment];
-                take_words(alloc, &mut smf, &report, &mut events)?;
-                take_words(alloc, &mut smf, &["change", "QOS", moment], &mut events)?;
+                take_words(alloc, &mut smf, &report)?;
+                take_words(alloc, &mut smf, &["change", "QOS", moment])?;
             }
         } else {
-            text.push_str(take_words(alloc, &mut smf, &words, &mut events)?)?;
+            text.push_str(take_words(alloc, &mut smf, &words)?)?;
         }
     }
     text.push_str(" ")?;
     show(&smf, &mut text)?;
-    Ok((text, smf, events))
-}
-
-fn same_containers(smf: &Smf, session: &Session) -> bool {
-    let all = smf.containers(session.number);
-    let held = smf.held(session.number);
-    let mut next = 0usize;
-    for (at, holding) in session.holdings.as_slice().iter().enumerate() {
-        match all.get(at) {
-            Some(container) if *container == holding.container => {}
-            _ => return false,
-        }
-        if matches!(holding.place, Place::Open | Place::Waiting | Place::Frozen) {
-            match held.get(next) {
-                Some(container) if *container == holding.container => {}
-                _ => return false,
-            }
-            next = next.wrapping_add(1);
-        }
-    }
-    all.len() == session.holdings.len() && held.len() == next
-}
-
-fn same_request(smf: &Smf, session: &Session) -> bool {
-    match (smf.request(session.number), &session.request) {
-        (None, None) => true,
-        (Some(seen), Some(request)) => *seen == *request,
-        _ => false,
-    }
-}
-
-/// Whether what is read of a machine is what the plain machine has.
-pub fn agrees(smf: &Smf, machine: &Machine) -> bool {
-    for (at, session) in machine.sessions.as_slice().iter().enumerate() {
-        match smf.sessions().get(at) {
-            Some(number) if *number == session.number => {}
-            _ => return false,
-        }
-        if !same_request(smf, session) || !same_containers(smf, session) {
-            return false;
-        }
-        for group in [10, 20, 30] {
-            if smf.gate(session.number, group) != gate(session, group)
-                || smf.expected(session.number, group) != expected(session, group)
-            {
-                return false;
-            }
-        }
-    }
-    smf.sessions().len() == machine.sessions.len()
+    Ok(text)
 }

@@ -1,6 +1,5 @@
-use crate::test_draws::{Draws, drawn};
-use crate::test_rows::{agrees, outcome, setup, taken};
-use crate::{Smf, plain_after};
+//! Rows of events with what comes of them, worked out by hand from the rules.
+use crate::test_rows::outcome;
 use std::test::Fail;
 
 // What stands before the first bar is how a row is called; then its events, and after the second bar the answers and what is seen at
@@ -62,35 +61,9 @@ fn rows_of_events(rt: HostRuntime) -> Result<(), Fail> {
         for row in rows.lines() {
             let (name, rest) = row.split_once('|').ok_or("no events")?;
             let (events, wanted) = rest.split_once('|').ok_or("no outcome")?;
-            let (seen, smf, mut events) = outcome(alloc, many, events)?;
+            let seen = outcome(alloc, many, events)?;
             assert_eq!(rt; seen.as_str(), wanted, "{name}");
-            if !many {
-                events.reverse();
-                let machine = plain_after(alloc, &setup(alloc, many)?, &events)?;
-                assert!(rt; agrees(&smf, &machine), "{name}");
-            }
         }
-    }
-    Ok(())
-}
-
-#[test]
-fn drawn_events_go_as_in_the_plain_machine(rt: HostRuntime) -> Result<(), Fail> {
-    let alloc = rt.alloc();
-    for seed in 1..40 {
-        let mut draws = Draws { state: seed };
-        let mut smf = Smf::new(alloc, &setup(alloc, false)?)?;
-        let mut events = Vec::new(alloc);
-        let mut now = 0u64;
-        for _ in 0..120 {
-            now = now.saturating_add(draws.next() % 300);
-            let event = drawn(alloc, &mut draws, &smf, now)?;
-            let _ = taken(alloc, &mut smf, &event);
-            events.push(event)?;
-        }
-        events.reverse();
-        let machine = plain_after(alloc, &setup(alloc, false)?, &events)?;
-        assert!(rt; agrees(&smf, &machine), "seed {seed}");
     }
     Ok(())
 }

@@ -1,9 +1,10 @@
-ghost use Rattle.std.specs.Prelude.{◌≡◌, ◌==◌, ◌+◌, ◌<◌, ◌^◌, [], ◌∷◌, ◌++◌, nat_lt, IfOk, OnOk, IsTrue, map, filter, length, if◌then◌else◌, false};
+//! Reports, changes of charging conditions, and ends of traffic.
+ghost use Rattle.std.specs.Prelude.{◌≡◌, ◌==◌, ◌+◌, ◌<◌, ◌^◌, [], ◌∷◌, ◌++◌, nat_lt, ◌↔◌, IfOk, IsOk, OnOk, IsTrue, map, filter, length, if◌then◌else◌, false};
 ghost use Rattle.std.specs.List.{list_any};
 ghost use Rattle.smf_core.specs.Draft.{whole, joined_past, counted_past};
 ghost use Rattle.smf_core.specs.Rules.{is_immediate_for};
 ghost use Rattle.smf_core.specs.Settle.{is_open, is_open_of, entry_of, fire, is_at_once};
-ghost use Rattle.smf_core.specs.Traffic.{horizon_in, closes_before, close_of, extend_of, first_of as first_held, count_entry, new_entry, or_new, asked_entry, with_asked, started, close_any, has_open, is_change_at_once, changed, without_traffic, detached, ended, give_up, ended_for};
+ghost use Rattle.smf_core.specs.Traffic.{horizon_in, closes_before, close_of, extend_of, SumsFit, first_of as first_held, count_entry, new_entry, or_new, asked_entry, with_asked, started, close_any, has_open, is_change_at_once, changed, without_traffic, detached, ended, give_up, ended_for};
 
 use crate::draft::{Draft, Pending};
 use crate::freeze::{is_frozen_place, is_waiting_place};
@@ -74,10 +75,7 @@ fn closed_in(
 
 // Whether the sums of a container and a report fit their types; in no session do they not.
 fn fits(container: &Container, report: &Report) -> bool
-    ensures up { IsTrue result → container.now.up + report.now.up < 2 ^ 64 }
-    ensures down { IsTrue result → container.now.down + report.now.down < 2 ^ 64 }
-    ensures seconds { IsTrue result → container.now.seconds + report.now.seconds < 2 ^ 32 }
-    ensures reports { IsTrue result → container.now.reports + 1 < 2 ^ 32 }
+    ensures { IsTrue result ↔ SumsFit container.now report.now }
 {
     report.up <= u64::MAX - container.up
         && report.down <= u64::MAX - container.down
@@ -86,7 +84,8 @@ fn fits(container: &Container, report: &Report) -> bool
 }
 
 fn extend_in(report: &Report, holding: &Holding) -> Result<Holding, OutOfMemory>
-    ensures { IfOk result (λ h. h ≡ extend_of report.now holding.now) }
+    ensures value { IfOk result (λ h. h ≡ extend_of report.now holding.now) }
+    ensures given { SumsFit holding.now.container report.now → IsOk result }
 {
     if !is_open_in(report.group, holding) {
         return Ok(*holding);

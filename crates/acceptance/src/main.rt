@@ -1,0 +1,92 @@
+//! What the libraries answer on the lines of the input, beside what was worked out elsewhere. A line is the word of a table, the
+//! fields of a case and at last the answer that is wanted, with tabs between them. Each line with another answer is printed with
+//! it, and at the end how many lines each table has.
+#![tactic(auto)]
+
+mod elements;
+mod quota_steps;
+mod reports;
+mod times;
+mod values;
+
+use edge::{StreamSource, read_all};
+use std::alloc::Global;
+use std::io;
+use std::process::ExitCode;
+use units::OutOfMemory;
+
+/// The most octets of an input.
+const INPUT_LIMIT: usize = 1 << 24;
+
+/// The tables, by the words that begin their lines.
+const TABLES: [&str; 7] = [
+    "time", "stamp", "element", "length", "once", "meter", "quota",
+];
+
+// What is answered on a case.
+fn answer(alloc: Global, table: &str, fields: &[&str]) -> Result<String, OutOfMemory> {
+    match (table, fields) {
+        ("time", [text]) => times::time(alloc, text),
+        ("stamp", [octets]) => times::stamp(alloc, octets),
+        ("element", [octets]) => elements::element(alloc, octets),
+        ("length", [count]) => elements::length(alloc, count),
+        ("once", [octets]) => elements::once(alloc, octets),
+        ("meter", [horizon, reports]) => reports::meter(alloc, horizon, reports),
+        ("quota", [steps]) => quota_steps::quota(alloc, steps),
+        _ => Ok(String::from_str(alloc, "no such table")?),
+    }
+}
+
+// Looks at a line: what is answered, where that is not what is wanted.
+fn difference(alloc: Global, line: &str) -> Result<Option<String>, OutOfMemory> {
+    let fields: Vec<&str> = line.split('\t').collect(alloc)?;
+    match fields.as_slice() {
+        [table, given @ .., wanted] => {
+            let got = answer(alloc, table, given)?;
+            if got.as_str() == *wanted {
+                Ok(None)
+            } else {
+                Ok(Some(got))
+            }
+        }
+        _ => Ok(Some(String::from_str(alloc, "no table")?)),
+    }
+}
+
+// How many lines begin with the word of a table.
+fn count(lines: &str, table: &str) -> u32 {
+    let mut count = 0u32;
+    for line in lines.lines() {
+        if line.split('\t').next() == Some(table) {
+            count = count.saturating_add(1);
+        }
+    }
+    count
+}
+
+fn run(rt: &HostRuntime) -> io::Result<ExitCode> {
+    let alloc = rt.alloc();
+    let Ok(mut input) = StreamSource::new(alloc, rt.reader()) else {
+        return Ok(ExitCode::from(9));
+    };
+    let Ok(bytes) = read_all(alloc, &mut input, INPUT_LIMIT) else {
+        return Ok(ExitCode::from(3));
+    };
+    let lines = std::str::from_utf8(bytes.as_slice()).unwrap_or("");
+    for line in lines.lines() {
+        match difference(alloc, line) {
+            Ok(None) => {}
+            Ok(Some(got)) => println!(rt; "{line}\nanswers {got}")?,
+            Err(OutOfMemory) => return Ok(ExitCode::from(9)),
+        }
+    }
+    for table in TABLES {
+        let count = count(lines, table);
+        println!(rt; "{table} {count}")?;
+    }
+    Ok(ExitCode::SUCCESS)
+}
+
+fn main(rt: HostRuntime) -> io::Result<ExitCode> {
+    run(&rt)
+}

@@ -1,0 +1,5 @@
+use Rattle.journal.proofs.One.{one_list}
+use Rattle.journal.proofs.laws.bytes_stand_for_one_list.Goals as goal
+
+pub returns : goal.returns
+returns c = one_list
