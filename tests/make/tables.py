@@ -8,11 +8,12 @@ import sys
 from pathlib import Path
 
 import elements
+import http_messages
 import reports
 import times
 
 FOLDER = Path(__file__).resolve().parents[2] / "crates" / "acceptance"
-TABLES = "time stamp element length once meter quota".split()
+TABLES = "time stamp element length once meter quota request response".split()
 
 
 def time(text):
@@ -25,7 +26,8 @@ def stamp(octets):
     return "-" if moment is None else str(moment)
 
 
-MODELS = dict(time=time, stamp=stamp, element=elements.element, length=elements.length, meter=reports.meter)
+MODELS = dict(time=time, stamp=stamp, element=elements.element, length=elements.length, meter=reports.meter,
+              request=http_messages.requests, response=http_messages.responses)
 
 
 def main():

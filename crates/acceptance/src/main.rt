@@ -4,6 +4,7 @@
 #![tactic(auto)]
 
 mod elements;
+mod http;
 mod quota_steps;
 mod reports;
 mod times;
@@ -19,8 +20,8 @@ use units::OutOfMemory;
 const INPUT_LIMIT: usize = 1 << 24;
 
 /// The tables, by the words that begin their lines.
-const TABLES: [&str; 7] = [
-    "time", "stamp", "element", "length", "once", "meter", "quota",
+const TABLES: [&str; 9] = [
+    "time", "stamp", "element", "length", "once", "meter", "quota", "request", "response",
 ];
 
 // What is answered on a case.
@@ -33,6 +34,8 @@ fn answer(alloc: Global, table: &str, fields: &[&str]) -> Result<String, OutOfMe
         ("once", [octets]) => elements::once(alloc, octets),
         ("meter", [horizon, reports]) => reports::meter(alloc, horizon, reports),
         ("quota", [steps]) => quota_steps::quota(alloc, steps),
+        ("request", [octets]) => http::requests(alloc, octets),
+        ("response", [octets]) => http::responses(alloc, octets),
         _ => Ok(String::from_str(alloc, "no such table")?),
     }
 }

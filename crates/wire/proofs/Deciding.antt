@@ -52,7 +52,7 @@ module _ {M P : Type 0} (At : List ℕ → Head M → Type 0) (Hopeless : List �
       let p = take found.size (front bytes) in
       let grows = front_grows bytes more in
       let whole : front (bytes ++ more) ≡ p ++ (drop found.size (front bytes) ++ grows.0) =
-          grows.1 ∙ ap (λ t. t ++ grows.0) (sym (take-append-drop found.size (front bytes))) ∙ append_assoc p (drop found.size (front bytes)) grows.0 in
+      grows.1 ∙ ap (λ t. t ++ grows.0) (sym (take-append-drop found.size (front bytes))) ∙ append_assoc p (drop found.size (front bytes)) grows.0 in
       let sized = length-take found.size (front bytes) in
       let same : take found.size (front (bytes ++ more)) ≡ p = first_is (front (bytes ++ more)) p (drop found.size (front bytes) ++ grows.0) found.size whole (omega (arith, h.within, sized)) in
       record {

@@ -62,8 +62,8 @@ front_has b m size lines =
     let u = up_to_short b 66 m lines in
     let inner : take (up_to 66 (b ++ m)) (b ++ m) ≡ b ++ take u.0 m = ap (λ k. take k (b ++ m)) u.1 ∙ take-append-add b m u.0 in
     (take (16384 - length b) (take u.0 m), ap (take 16384) inner ∙ ap (λ k. take k (b ++ take u.0 m)) (room (length b) size) ∙ take-append-add b (take u.0 m) (16384 - length b)) where
-  room : (n : ℕ) → n ≤ 16384 → 16384 ≡ n + (16384 - n)
-  room n le = omega arith
+      room : (n : ℕ) → n ≤ 16384 → 16384 ≡ n + (16384 - n)
+      room n le = omega arith
 
 front_lines : (b m : List ℕ) → 66 ≤ line_feeds b → front (b ++ m) ≡ front b
 unfolding front
@@ -128,9 +128,9 @@ unfolding front
 front_open end b is le =
     let u = up_to 66 b in
     ⊎_elim
-      (λ (s : length b < 16384). ap (take 16384) (take_all u b (omega arith)) ∙ take_all 16384 b (omega arith) ∙ sym (take_all end b (omega arith)))
-      (λ (s : 16384 ≤ length b). let e : 16384 ≡ end = omega arith in take-take 16384 u b (omega arith) ∙ ap (λ k. take k b) e)
-      (cases_lt (length b) 16384)
+    (λ (s : length b < 16384). ap (take 16384) (take_all u b (omega arith)) ∙ take_all 16384 b (omega arith) ∙ sym (take_all end b (omega arith)))
+    (λ (s : 16384 ≤ length b). let e : 16384 ≡ end = omega arith in take-take 16384 u b (omega arith) ∙ ap (λ k. take k b) e)
+    (cases_lt (length b) 16384)
 
 -- the count where the byte at a place is a line feed, and where it is another
 pub after_feed : (u n at : ℕ) (b : List ℕ) → u ≡ at + up_to n (drop at b) → 0 < n → at < length b → get_or b at 0 ≡ 10 → u ≡ at + 1 + up_to (n - 1) (drop (at + 1) b)
@@ -149,9 +149,10 @@ after_other u n at b is some lt other =
 pub front_prefix : (b : List ℕ) → (rest : List ℕ) × (b ≡ front b ++ rest)
 unfolding front
 front_prefix b =
-    let u = up_to 66 b in
-    (drop 16384 (take u b) ++ drop u b,
-      sym (take-append-drop u b) ∙ ap (λ t. t ++ drop u b) (sym (take-append-drop 16384 (take u b))) ∙ append_assoc (take 16384 (take u b)) (drop 16384 (take u b)) (drop u b))
+    let u = up_to 66 b in (
+      drop 16384 (take u b) ++ drop u b,
+      sym (take-append-drop u b) ∙ ap (λ t. t ++ drop u b) (sym (take-append-drop 16384 (take u b))) ∙ append_assoc (take 16384 (take u b)) (drop 16384 (take u b)) (drop u b),
+    )
 
 pub front_takes : (b : List ℕ) (size : ℕ) → size ≤ length (front b) → take size (front b) ≡ take size b
 front_takes b size h = let p = front_prefix b in sym (ap (take size) p.1 ∙ take-append-le size (front b) p.0 h)

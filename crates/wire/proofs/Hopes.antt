@@ -44,7 +44,7 @@ pub may_become : (a r : List ℕ) (blank : List LineEnd) (method : List ℕ) →
 may_become a r blank method token is never =
     let text = own_text blank method in
     let all : a ++ (r ++ text.0) ≡ print_request (own_head blank method) ++ [] =
-        sym (append_assoc a r text.0) ∙ ap (λ t. t ++ text.0) (sym is) ∙ sym text.1 ∙ sym (append-nil (print_request (own_head blank method))) in
+    sym (append_assoc a r text.0) ∙ ap (λ t. t ++ text.0) (sym is) ∙ sym text.1 ∙ sym (append-nil (print_request (own_head blank method))) in
     never (r ++ text.0) (own_head blank method) [] (own_is_head blank method token, all)
 
 front_all : (t x : List ℕ) → AllPass is_uri_byte (t ++ x) → AllPass is_uri_byte t
@@ -66,8 +66,8 @@ within a x blank method target token pass never (b ∷ t) is rest =
 pub target_before : (a x : List ℕ) → NeverHasRequest a → EndsInTarget (a ++ x) → EndsInTarget a
 target_before a x never (blank, method, target, token, pass, is) =
     ⊎_elim (λ h. absurd (may_become a h.0 blank method token h.1 never))
-      (λ h. within a x blank method target token pass never h.0 h.1 h.2)
-      (split a x (print_blank blank ++ method) (space ∷ target) is)
+    (λ h. within a x blank method target token pass never h.0 h.1 h.2)
+    (split a x (print_blank blank ++ method) (space ∷ target) is)
 
 pub hopeless_stays : (a x : List ℕ) → IsHopelessRequest a → IsHopelessRequest (a ++ x)
 hopeless_stays a x h = record {

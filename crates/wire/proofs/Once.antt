@@ -57,7 +57,7 @@ module _ {M : Type 0} (At : List ℕ → Head M → Type 0) (Hopeless : List ℕ
   unfolding Begins
   bad_once bytes r q x y =
       ⊎_elim (λ a. ⊎_elim (λ b. one_refusal r q (body_length a.0.fields) (body_length b.0.fields) a.2 b.2 (by_head bytes a.0 b.0 a.1 b.1)) (λ b. absurd (b.0 a.0 a.1)) y)
-        (λ a. ⊎_elim (λ b. absurd (a.0 b.0 b.1)) (λ b. front_once Hopeless bytes r q a.1 b.1) y) x
+      (λ a. ⊎_elim (λ b. absurd (a.0 b.0 b.1)) (λ b. front_once Hopeless bytes r q a.1 b.1) y) x
 
   whole_not_bad : (bytes : List ℕ) (message : M) (m : ℕ) (r : WireRefusal) → IsWhole At bytes message m → Begins At Hopeless bytes (Bad r) → ⊥
   unfolding Begins
@@ -68,14 +68,14 @@ module _ {M : Type 0} (At : List ℕ → Head M → Type 0) (Hopeless : List ℕ
   unfolding Begins
   whole_not_more bytes message m x y =
       ⊎_elim (λ b. let c : x.count ≡ b.count = one_count x.count b.count (body_length x.head.fields) (body_length b.head.fields) x.body b.body (by_head bytes x.head b.head x.stands b.stands) in
-          let same : x.head.size ≡ b.head.size = ap (λ (h : Head M). h.size) (are.once (front bytes) x.head b.head x.stands b.stands) in
-          omega (arith, x.here, b.lacks, c, same)) (λ b. b.0 x.head x.stands) y
+      let same : x.head.size ≡ b.head.size = ap (λ (h : Head M). h.size) (are.once (front bytes) x.head b.head x.stands b.stands) in
+      omega (arith, x.here, b.lacks, c, same)) (λ b. b.0 x.head x.stands) y
 
   bad_not_more : (bytes : List ℕ) (r : WireRefusal) → Begins At Hopeless bytes (Bad r) → Begins At Hopeless bytes More → ⊥
   unfolding Begins
   bad_not_more bytes r x y =
       ⊎_elim (λ a. ⊎_elim (λ b. ok_or_err b.count r (body_length b.head.fields) (body_length a.0.fields) b.body a.2 (by_head bytes b.head a.0 b.stands a.1)) (λ b. b.0 a.0 a.1) y)
-        (λ a. ⊎_elim (λ b. a.0 b.head b.stands) (λ b. front_not_more Hopeless bytes r a.1 b.1 b.2) y) x
+      (λ a. ⊎_elim (λ b. a.0 b.head b.stands) (λ b. front_not_more Hopeless bytes r a.1 b.1 b.2) y) x
 
   pub looks_once : (bytes : List ℕ) (a b : Look M) → Begins At Hopeless bytes a → Begins At Hopeless bytes b → a ≡ b
   unfolding Begins

@@ -66,5 +66,5 @@ module _ {M : Type 0} (Looks : List ℕ → Look M → Type 0) (decides : Decide
       let reads : UnlessRefused false old h.taken result now (Reads Looks (old.bytes ++ h.taken) b result now) = subst (λ x. UnlessRefused x old h.taken result now (Reads Looks (old.bytes ++ h.taken) b result now)) fresh h.reads in
       let there : Reads Looks (old.bytes ++ h.taken) (Some left_now) result now = subst (λ x. Reads Looks (old.bytes ++ h.taken) x result now) f reads in
       let stream : (old.bytes ++ h.taken) ++ left_now ≡ old.bytes ++ left =
-          append_assoc old.bytes h.taken left_now ∙ ap (λ x. old.bytes ++ x) (sym (consumed left left_now h.taken a b e f h.source)) in
+      append_assoc old.bytes h.taken left_now ∙ ap (λ x. old.bytes ++ x) (sym (consumed left left_now h.taken a b e f h.source)) in
       subst (λ x. AnswersStream Looks x (now.bytes ++ left_now) result) stream (answers (old.bytes ++ h.taken) left_now now result there)

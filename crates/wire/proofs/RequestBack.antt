@@ -121,8 +121,19 @@ few_lines host path body h =
     let b = line (codes "Content-Type") (codes "application/json") in
     let c = line (codes "Host") host in
     let ra : line_feeds r ≡ 1 = omega (arith, line_feeds-append (codes "POST " ++ path) (codes " HTTP/1.1\r\n"), line_feeds-append (codes "POST ") path, target) in
-    omega (arith, line_feeds-append (((r ++ a) ++ b) ++ c) (codes "\r\n"), line_feeds-append ((r ++ a) ++ b) c, line_feeds-append (r ++ a) b, line_feeds-append r a, ra,
-      line_feeds-line (codes "Content-Length") d, line_feeds-line (codes "Content-Type") (codes "application/json"), line_feeds-line (codes "Host") host, number, value)
+    omega (
+      arith,
+      line_feeds-append (((r ++ a) ++ b) ++ c) (codes "\r\n"),
+      line_feeds-append ((r ++ a) ++ b) c,
+      line_feeds-append (r ++ a) b,
+      line_feeds-append r a,
+      ra,
+      line_feeds-line (codes "Content-Length") d,
+      line_feeds-line (codes "Content-Type") (codes "application/json"),
+      line_feeds-line (codes "Host") host,
+      number,
+      value,
+    )
 
 pub few_bytes : (host path body : List ℕ) → AreFit host path body → length (head_text host path (length body)) ≤ 16384
 unfolding request_line
@@ -134,8 +145,19 @@ few_bytes host path body h =
     let b = line (codes "Content-Type") (codes "application/json") in
     let c = line (codes "Host") host in
     let ra : length r ≡ length path + 16 = omega (arith, length-append (codes "POST " ++ path) (codes " HTTP/1.1\r\n"), length-append (codes "POST ") path) in
-    omega (arith, length-append (((r ++ a) ++ b) ++ c) (codes "\r\n"), length-append ((r ++ a) ++ b) c, length-append (r ++ a) b, length-append r a, ra,
-      length-line (codes "Content-Length") d, length-line (codes "Content-Type") (codes "application/json"), length-line (codes "Host") host, number, h.head_short)
+    omega (
+      arith,
+      length-append (((r ++ a) ++ b) ++ c) (codes "\r\n"),
+      length-append ((r ++ a) ++ b) c,
+      length-append (r ++ a) b,
+      length-append r a,
+      ra,
+      length-line (codes "Content-Length") d,
+      length-line (codes "Content-Type") (codes "application/json"),
+      length-line (codes "Host") host,
+      number,
+      h.head_short,
+    )
 
 not_blank : (b : ℕ) → IsInRange 48 57 b → is_ows b ≡ false
 not_blank b h = grind (arith, nat_tests)
@@ -178,11 +200,11 @@ digits_read : (n : ℕ) → n < 2 ^ 64 → n < 2 ^ 64 → with_digits 0 (decimal
 digits_read = decimal_by_steps (λ n ds. n < 2 ^ 64 → with_digits 0 ds ≡ Some n)
     (λ n low fits. ap (option_and_then (λ more. Some more)) (one_digit 0 n low (omega arith)) ∙ ap {B = Option ℕ} (λ k. Some k) (none_before n))
     (λ n ds big h fits. with_digits-append 0 (48 + n % 10) ds ∙ ap (option_and_then (λ m. with_digit m (48 + n % 10))) (h (omega arith)) ∙ one_digit (n / 10) (n % 10) (omega arith) (omega arith) ∙ ap {B = Option ℕ} (λ k. Some k) (whole n)) where
-  none_before : (n : ℕ) → 0 * 10 + n ≡ n
-  none_before n = omega arith
+      none_before : (n : ℕ) → 0 * 10 + n ≡ n
+      none_before n = omega arith
 
-  whole : (n : ℕ) → n / 10 * 10 + n % 10 ≡ n
-  whole n = omega arith
+      whole : (n : ℕ) → n / 10 * 10 + n % 10 ≡ n
+      whole n = omega arith
 
 -- a length that was written is read
 pub length_reads : (n : ℕ) → n ≤ 1048576 → length_of (decimal n) ≡ Some n
@@ -191,8 +213,8 @@ length_reads n small =
     let some : nat_le 1 (length (decimal n)) ≡ true = by_le 1 (length (decimal n)) (omega (arith, decimal_nonempty n fits)) in
     let few : nat_le (length (decimal n)) 10 ≡ true = by_le (length (decimal n)) 10 (length-decimal-le 10 n (omega arith) (omega arith) fits) in
     ap (λ t. cond t (with_digits 0 (decimal n)) None) (λ i. some i && few i) ∙ digits_read n fits fits where
-  by_le : (a b : ℕ) → a ≤ b → nat_le a b ≡ true
-  by_le a b le = grind (arith, nat_tests)
+      by_le : (a b : ℕ) → a ≤ b → nat_le a b ≡ true
+      by_le a b le = grind (arith, nat_tests)
 
 -- the fields say how long the body is
 stated : (host : List ℕ) (n : ℕ) → n ≤ 1048576 → body_length (map name_and_value (head_of host [] n).fields) ≡ Ok n
@@ -201,8 +223,8 @@ stated host n small =
     let fits : n < 2 ^ 64 = omega arith in
     let small_is : nat_le n 1048576 ≡ true = grind (arith, nat_tests) in
     ap (λ v. judged (option_and_then (λ now. Some now) (option_and_then (agree None) (length_of v))) false) (trimmed_decimal n fits)
-      ∙ ap (λ o. judged (option_and_then (λ now. Some now) (option_and_then (agree None) o)) false) (length_reads n small)
-      ∙ ap (λ t. cond t (Ok n) (Err (TooLong false))) small_is
+    ∙ ap (λ o. judged (option_and_then (λ now. Some now) (option_and_then (agree None) o)) false) (length_reads n small)
+    ∙ ap (λ t. cond t (Ok n) (Err (TooLong false))) small_is
 
 pub drop_front : (a b : List ℕ) → drop (length a) (a ++ b) ≡ b
 drop_front a b = drop-append-le (length a) a b (omega arith) ∙ ap (λ t. t ++ b) (drop_all (length a) a (omega arith))

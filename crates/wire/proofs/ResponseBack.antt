@@ -86,7 +86,7 @@ code_passes status h =
     let c = 48 + status % 10 in
     let b = 48 + status / 10 % 10 in
     All-cons (λ b. IsTrue (is_ascii_digit b)) (48 + status / 100) (b ∷ c ∷ []) (digit_pass (status / 100) (omega arith)) (All-cons (λ b. IsTrue (is_ascii_digit b)) b (c ∷ []) (digit_pass (status / 10 % 10) (omega arith))
-      (All-cons (λ b. IsTrue (is_ascii_digit b)) c [] (digit_pass (status % 10) (omega arith)) (All-nil (λ b. IsTrue (is_ascii_digit b)))))
+    (All-cons (λ b. IsTrue (is_ascii_digit b)) c [] (digit_pass (status % 10) (omega arith)) (All-nil (λ b. IsTrue (is_ascii_digit b)))))
 
 code_value : (status : ℕ) → status < 1000 → digits_value 10 (code_digits status) ≡ status
 code_value status h =
@@ -94,8 +94,8 @@ code_value status h =
     let b = digit_is (status / 10 % 10) (omega arith) in
     let c = digit_is (status % 10) (omega arith) in
     (λ i. ((0 * 10 + a i) * 10 + b i) * 10 + c i) ∙ whole status h where
-  whole : (s : ℕ) → s < 1000 → ((0 * 10 + s / 100) * 10 + s / 10 % 10) * 10 + s % 10 ≡ s
-  whole s h = omega arith
+      whole : (s : ℕ) → s < 1000 → ((0 * 10 + s / 100) * 10 + s / 10 % 10) * 10 + s % 10 ≡ s
+      whole s h = omega arith
 
 closes_field : (close : Bool) → All IsField (close_fields close)
 unfolding close_fields httparse_on_literals
@@ -115,7 +115,7 @@ body_field true n kind small h = All-nil IsField
 body_field false n kind small h =
     let b = field (codes "Content-Type") kind in
     All-cons IsField (field (codes "Content-Length") (decimal n)) (b ∷ []) (valued (codes "Content-Length") (decimal n) (omega arith, passing is_token_byte (codes "Content-Length") refl) (digits_pass n (omega (arith, small))))
-      (All-cons IsField b [] (valued (codes "Content-Type") kind (omega arith, passing is_token_byte (codes "Content-Type") refl) h) (All-nil IsField))
+    (All-cons IsField b [] (valued (codes "Content-Type") kind (omega arith, passing is_token_byte (codes "Content-Type") refl) h) (All-nil IsField))
 
 location_field : (location : Option (List ℕ)) → IfSome location IsFitLocation → All IsField (location_fields location)
 unfolding location_fields httparse_on_literals
@@ -168,9 +168,9 @@ printed status close location body =
     let b = body_fields (status == 204) (length body) (content_type status) in
     let c = location_fields location in
     (λ i. status_line status ++ close_printed close i ++ body_printed (status == 204) (length body) (content_type status) i ++ location_printed location i ++ codes "\r\n")
-      ∙ sections (status_line status) (flat_map print_field a) (flat_map print_field b) (flat_map print_field c) (codes "\r\n")
-      ∙ ap (λ t. status_line status ++ (t ++ codes "\r\n")) (ap (λ t. t ++ flat_map print_field c) (sym (flat_map-append print_field a b)) ∙ sym (flat_map-append print_field (a ++ b) c))
-      ∙ ap (λ s. s ++ (flat_map print_field ((a ++ b) ++ c) ++ codes "\r\n")) (start status)
+    ∙ sections (status_line status) (flat_map print_field a) (flat_map print_field b) (flat_map print_field c) (codes "\r\n")
+    ∙ ap (λ t. status_line status ++ (t ++ codes "\r\n")) (ap (λ t. t ++ flat_map print_field c) (sym (flat_map-append print_field a b)) ∙ sym (flat_map-append print_field (a ++ b) c))
+    ∙ ap (λ s. s ++ (flat_map print_field ((a ++ b) ++ c) ++ codes "\r\n")) (start status)
 
 close_feeds : (close : Bool) → line_feeds (close_line close) ≤ 1
 close_feeds true = omega (arith, line_feeds-line (codes "Connection") (codes "close"))
@@ -202,8 +202,17 @@ few_lines status close location body within fit small =
     let a = close_line close in
     let b = body_lines status body in
     let c = location_line location in
-    omega (arith, line_feeds-append (((s ++ a) ++ b) ++ c) (codes "\r\n"), line_feeds-append ((s ++ a) ++ b) c, line_feeds-append (s ++ a) b, line_feeds-append s a, status_feeds status within, close_feeds close,
-      body_feeds (status == 204) (length body) (content_type status) small (kind_passes status), location_feeds location fit)
+    omega (
+      arith,
+      line_feeds-append (((s ++ a) ++ b) ++ c) (codes "\r\n"),
+      line_feeds-append ((s ++ a) ++ b) c,
+      line_feeds-append (s ++ a) b,
+      line_feeds-append s a,
+      status_feeds status within,
+      close_feeds close,
+      body_feeds (status == 204) (length body) (content_type status) small (kind_passes status),
+      location_feeds location fit,
+    )
 
 close_bytes : (close : Bool) → length (close_line close) ≤ 30
 close_bytes true = omega (arith, length-line (codes "Connection") (codes "close"))
@@ -240,8 +249,17 @@ few_bytes status close location body within fit small =
     let a = close_line close in
     let b = body_lines status body in
     let c = location_line location in
-    omega (arith, length-append (((s ++ a) ++ b) ++ c) (codes "\r\n"), length-append ((s ++ a) ++ b) c, length-append (s ++ a) b, length-append s a, status_bytes status within, close_bytes close,
-      body_bytes (status == 204) (length body) (content_type status) small (kind_short status), location_bytes location fit)
+    omega (
+      arith,
+      length-append (((s ++ a) ++ b) ++ c) (codes "\r\n"),
+      length-append ((s ++ a) ++ b) c,
+      length-append (s ++ a) b,
+      length-append s a,
+      status_bytes status within,
+      close_bytes close,
+      body_bytes (status == 204) (length body) (content_type status) small (kind_short status),
+      location_bytes location fit,
+    )
 
 -- the fields of a head as they are read
 named : Bool → Bool → ℕ → List ℕ → Option (List ℕ) → List Named
@@ -252,8 +270,8 @@ number_read n small =
     let fits : n < 2 ^ 64 = omega arith in
     let small_is : nat_le n 1048576 ≡ true = grind (arith, nat_tests) in
     ap (λ v. judged (option_and_then (λ now. Some now) (option_and_then (agree None) (length_of v))) false) (trimmed_decimal n fits)
-      ∙ ap (λ o. judged (option_and_then (λ now. Some now) (option_and_then (agree None) o)) false) (length_reads n small)
-      ∙ ap (λ t. cond t (Ok n) (Err (TooLong false))) small_is
+    ∙ ap (λ o. judged (option_and_then (λ now. Some now) (option_and_then (agree None) o)) false) (length_reads n small)
+    ∙ ap (λ t. cond t (Ok n) (Err (TooLong false))) small_is
 
 location_read : (location : List ℕ) → IsFitLocation location → cond (is_utf8 (trim_ows (32 ∷ location))) (Some (trim_ows (32 ∷ location))) None ≡ Some location
 location_read location fit =

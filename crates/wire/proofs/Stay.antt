@@ -33,7 +33,7 @@ module _ {M : Type 0} (At : List ℕ → Head M → Type 0) (Hopeless : List ℕ
   whole_stays b m message size w =
       let n = w.head.size in
       let body : take w.count (drop n (b ++ m)) ≡ take w.count (drop n b) =
-          ap (take w.count) (drop-append-le n b m (omega (arith, w.here))) ∙ take-append-le w.count (drop n b) m (omega (arith, length-drop n b, w.here)) in
+      ap (take w.count) (drop-append-le n b m (omega (arith, w.here))) ∙ take-append-le w.count (drop n b) m (omega (arith, length-drop n b, w.here)) in
       record {
         head = w.head;
         stands = head_stays b m w.head w.stands;

@@ -13,8 +13,8 @@ sized items from to le fits = omega (arith, length-take (to - from) (drop from i
 pub between : (old now : List ℕ) (from to : ℕ) → from ≤ to → take to now ≡ take to old → take (to - from) (drop from now) ≡ take (to - from) (drop from old)
 between old now from to le same =
     sym (front_is now) ∙ ap (drop from) same ∙ front_is old where
-  front_is : (items : List ℕ) → drop from (take to items) ≡ take (to - from) (drop from items)
-  front_is items = ap (λ k. drop from (take k items)) (split from to le) ∙ drop-take from (to - from) items
+      front_is : (items : List ℕ) → drop from (take to items) ≡ take (to - from) (drop from items)
+      front_is items = ap (λ k. drop from (take k items)) (split from to le) ∙ drop-take from (to - from) items
 
 -- bytes that were put behind those held
 pub grown : (old now : List ℕ) (from to count : ℕ) → from ≤ to → to + count ≤ length now → take to now ≡ take to old

@@ -26,7 +26,6 @@ pub struct Buffer {
 
 impl Model for Buffer {
     ghost use Rattle.std.specs.Prelude.{◌+◌, ◌-◌, ◌≤◌, ◌≡◌, drop, take, vec_len};
-
     ghost use Rattle.wire.specs.Buffers.{Buffered};
 
     ghost Value = { Buffered };

@@ -69,7 +69,11 @@ impl Conn {
     }
 
     // The next message, of one kind.
-    fn next<M: Framed, S: Source>(&mut self, alloc: Global, source: &mut S) -> Result<M, WireRefusal>
+    fn next<M: Framed, S: Source>(
+        &mut self,
+        alloc: Global,
+        source: &mut S,
+    ) -> Result<M, WireRefusal>
         requires { self.old.refused ≡ false }
         ensures read { HasRead (Reads (Begins M.is_at M.is_hopeless)) (λ bytes. Begins M.is_at M.is_hopeless bytes More) self.old self.new result (S.left source.old) (S.left source.new) (S.connections source.old) (S.connections source.new) }
         ensures later { S.faults source.old ≤ S.faults source.new }
@@ -80,7 +84,12 @@ impl Conn {
         ensures failed_openings { S.failed_openings source.new ≡ S.failed_openings source.old }
     {
         match decide::<M, S>(&mut self.buffer, source) {
-            Ok(Decision::Message(found, count)) => match take_message::<M>(alloc, &mut self.buffer, found, count) {
+            Ok(Decision::Message(found, count)) => match take_message::<M>(
+                alloc,
+                &mut self.buffer,
+                found,
+                count,
+            ) {
                 Ok(message) => Ok(message),
                 Err(_) => Err(WireRefusal::OutOfMemory),
             },
@@ -102,7 +111,11 @@ impl Conn {
     }
 
     // The same of a connection that may have been refused before.
-    fn read<M: Framed, S: Source>(&mut self, alloc: Global, source: &mut S) -> Result<M, WireRefusal>
+    fn read<M: Framed, S: Source>(
+        &mut self,
+        alloc: Global,
+        source: &mut S,
+    ) -> Result<M, WireRefusal>
         ensures read { HasRead (Reads (Begins M.is_at M.is_hopeless)) (λ bytes. Begins M.is_at M.is_hopeless bytes More) self.old self.new result (S.left source.old) (S.left source.new) (S.connections source.old) (S.connections source.new) }
         ensures later { S.faults source.old ≤ S.faults source.new }
         ensures rose { IsErrOf result WireRefusal.ReadFault → CountRose (S.faults source.old) (S.faults source.new) }

@@ -71,7 +71,10 @@ fn with_body<M: Framed, S: Source>(
 }
 
 /// Reads until the bytes held decide or the source is at its end.
-pub fn decide<M: Framed, S: Source>(buffer: &mut Buffer, source: &mut S) -> Result<Decision<M::Parts>, Failed>
+pub fn decide<M: Framed, S: Source>(
+    buffer: &mut Buffer,
+    source: &mut S,
+) -> Result<Decision<M::Parts>, Failed>
     ensures filled { HasFilled (λ bytes. Begins M.is_at M.is_hopeless bytes More) (has_failed result) buffer.old.held buffer.new.held (S.left source.old) (S.left source.new) (S.connections source.old) (S.connections source.new) }
     ensures decided { Decided M.is_at M.is_hopeless M.are_parts buffer.new.held (S.left source.new) result }
     ensures cause { FailsOnlyWithFault (S.faults source.old) (S.faults source.new) result }

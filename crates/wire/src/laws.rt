@@ -4,11 +4,9 @@ ghost use Rattle.wire.specs.Laws.{RequestsDecide, ResponsesDecide};
 /// Bytes begin with one request, one refusal or neither, and what decides decides whatever follows.
 pub fn requests_decide()
     ensures { RequestsDecide }
-{
-}
+{}
 
 /// The same of responses.
 pub fn responses_decide()
     ensures { ResponsesDecide }
-{
-}
+{}

@@ -11,4 +11,4 @@ returns-clause-message g c =
     let parts = ready_parts g.M.Framed.is_at g.M.Framed.is_hopeless g.M.Framed.are_parts c.args.buffer.now.held _ c.args.found c.args.count c.requires (c.split_at.ensures.front ∙ ap (take c.args.found.size) c.bytes.ensures) in
     let body = ap (take c.args.count) (c.split_at.ensures.back ∙ ap (drop c.args.found.size) c.bytes.ensures) in
     ready_whole g.M.Framed.is_at g.M.Framed.is_hopeless g.M.Framed.are_parts c.args.buffer.now.held c.args.found c.args.count c.requires c.in_ok-message.message
-      (c.in_ok-message.ensures c.requires.head.head parts ∙ ap c.requires.head.head.message body)
+    (c.in_ok-message.ensures c.requires.head.head parts ∙ ap c.requires.head.head.message body)

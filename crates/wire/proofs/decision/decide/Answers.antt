@@ -22,9 +22,10 @@ returns-in-Ok-clause-filled g c = filled_then g.M.Framed.is_at g.M.Framed.is_hop
 
 pub returns-in-Err-clause-decided : goal.returns-in-Err-clause-decided
 returns-in-Err-clause-decided g c =
-    let found : IsFound g.M.Framed.is_at g.M.Framed.are_parts (front c.loop-found.buffer.held) c.in-Found.found = subst (λ b. IsFound g.M.Framed.is_at g.M.Framed.are_parts (front b) c.in-Found.found) c.bytes.ensures c.in-Found.ensures in
-    (refused_head g.M.Framed.is_at g.M.Framed.is_hopeless g.M.Framed.are_parts c.loop-found.buffer.held c.in-Found.found c.in-Err.refusal found c.in-Err.is,
-      refused_of_bytes found.head.fields c.in-Err.refusal (sym found.follows ∙ c.in-Err.is))
+    let found : IsFound g.M.Framed.is_at g.M.Framed.are_parts (front c.loop-found.buffer.held) c.in-Found.found = subst (λ b. IsFound g.M.Framed.is_at g.M.Framed.are_parts (front b) c.in-Found.found) c.bytes.ensures c.in-Found.ensures in (
+      refused_head g.M.Framed.is_at g.M.Framed.is_hopeless g.M.Framed.are_parts c.loop-found.buffer.held c.in-Found.found c.in-Err.refusal found c.in-Err.is,
+      refused_of_bytes found.head.fields c.in-Err.refusal (sym found.follows ∙ c.in-Err.is),
+    )
 
 pub returns-in-Hopeless-clause-decided : goal.returns-in-Hopeless-clause-decided
 returns-in-Hopeless-clause-decided g c =
@@ -49,7 +50,7 @@ loop-found-smaller g c =
 pub loop-found-preserved : goal.loop-found-preserved
 loop-found-preserved g c =
     let more = open_start g.M.Framed.is_at g.M.Framed.is_hopeless g.M.Framed.are_parts c.loop-found.buffer.held c.bytes.result.now c.bytes-in-loop-found.result.now c.is_front_cut.result
-      c.bytes.ensures c.bytes-in-loop-found.ensures c.in-Open.ensures c.is_front_cut.ensures c.if-is_front_cut.false in
+    c.bytes.ensures c.bytes-in-loop-found.ensures c.in-Open.ensures c.is_front_cut.ensures c.if-is_front_cut.false in
     record {
       filled = filled_more g.M.Framed.is_at g.M.Framed.is_hopeless g.M.Framed.are_parts false _ _ _ _ _ _ _ _ _ c.loop-found.invariant.filled more c.in-Ok-true.ensures.took;
       faults = c.in-Ok-true.ensures.cause.kept ∙ c.loop-found.invariant.faults;
@@ -61,24 +62,25 @@ loop-found-preserved g c =
 pub returns-in-Ok-false-clause-filled : goal.returns-in-Ok-false-clause-filled
 returns-in-Ok-false-clause-filled g c =
     let more = open_start g.M.Framed.is_at g.M.Framed.is_hopeless g.M.Framed.are_parts c.loop-found.buffer.held c.bytes.result.now c.bytes-in-loop-found.result.now c.is_front_cut.result
-      c.bytes.ensures c.bytes-in-loop-found.ensures c.in-Open.ensures c.is_front_cut.ensures c.if-is_front_cut.false in
+    c.bytes.ensures c.bytes-in-loop-found.ensures c.in-Open.ensures c.is_front_cut.ensures c.if-is_front_cut.false in
     filled_more g.M.Framed.is_at g.M.Framed.is_hopeless g.M.Framed.are_parts false _ _ _ _ _ _ _ _ _ c.loop-found.invariant.filled more c.in-Ok-false.ensures.took
 
 pub returns-in-Ok-false-clause-decided : goal.returns-in-Ok-false-clause-decided
 returns-in-Ok-false-clause-decided g c =
     let more = open_start g.M.Framed.is_at g.M.Framed.is_hopeless g.M.Framed.are_parts c.loop-found.buffer.held c.bytes.result.now c.bytes-in-loop-found.result.now c.is_front_cut.result
-      c.bytes.ensures c.bytes-in-loop-found.ensures c.in-Open.ensures c.is_front_cut.ensures c.if-is_front_cut.false in
-    (subst (λ b. Begins g.M.Framed.is_at g.M.Framed.is_hopeless b More) (sym (c.in-Ok-false.ensures.same (λ e. absurd (true≢false (let f : c.in-Ok-false.field-0 ≡ true = cc in sym f ∙ c.in-Ok-false.field-0-test))))) more,
-      c.in-Ok-false.ensures.end (ap Ok c.in-Ok-false.field-0-test))
+    c.bytes.ensures c.bytes-in-loop-found.ensures c.in-Open.ensures c.is_front_cut.ensures c.if-is_front_cut.false in (
+      subst (λ b. Begins g.M.Framed.is_at g.M.Framed.is_hopeless b More) (sym (c.in-Ok-false.ensures.same (λ e. absurd (true≢false (let f : c.in-Ok-false.field-0 ≡ true = cc in sym f ∙ c.in-Ok-false.field-0-test))))) more,
+      c.in-Ok-false.ensures.end (ap Ok c.in-Ok-false.field-0-test),
+    )
 
 pub returns-in-Err-read-clause-filled : goal.returns-in-Err-read-clause-filled
 returns-in-Err-read-clause-filled g c =
     let more = open_start g.M.Framed.is_at g.M.Framed.is_hopeless g.M.Framed.are_parts c.loop-found.buffer.held c.bytes.result.now c.bytes-in-loop-found.result.now c.is_front_cut.result
-      c.bytes.ensures c.bytes-in-loop-found.ensures c.in-Open.ensures c.is_front_cut.ensures c.if-is_front_cut.false in
+    c.bytes.ensures c.bytes-in-loop-found.ensures c.in-Open.ensures c.is_front_cut.ensures c.if-is_front_cut.false in
     filled_more g.M.Framed.is_at g.M.Framed.is_hopeless g.M.Framed.are_parts true _ _ _ _ _ _ _ _ _ c.loop-found.invariant.filled more c.in-Err-read.ensures.took
 
 pub returns-in-Err-read-clause-decided : goal.returns-in-Err-read-clause-decided
 returns-in-Err-read-clause-decided g c =
     let more = open_start g.M.Framed.is_at g.M.Framed.is_hopeless g.M.Framed.are_parts c.loop-found.buffer.held c.bytes.result.now c.bytes-in-loop-found.result.now c.is_front_cut.result
-      c.bytes.ensures c.bytes-in-loop-found.ensures c.in-Open.ensures c.is_front_cut.ensures c.if-is_front_cut.false in
+    c.bytes.ensures c.bytes-in-loop-found.ensures c.in-Open.ensures c.is_front_cut.ensures c.if-is_front_cut.false in
     subst (λ b. Begins g.M.Framed.is_at g.M.Framed.is_hopeless b More) (sym (c.in-Err-read.ensures.same (λ e. cc))) more

@@ -24,10 +24,11 @@ returns-in-Ok-false-clause-filled g c =
     filled_body g.M.Framed.is_at g.M.Framed.is_hopeless g.M.Framed.are_parts false _ _ _ _ _ _ c.args.found c.args.count c.requires.found c.requires.body c.in-Ok-false.ensures.took c.in-Ok-false.ensures.had
 
 pub returns-in-Ok-false-clause-decided : goal.returns-in-Ok-false-clause-decided
-returns-in-Ok-false-clause-decided g c =
-    (part_is_more g.M.Framed.is_at g.M.Framed.is_hopeless g.M.Framed.are_parts _ c.args.found c.args.count
+returns-in-Ok-false-clause-decided g c = (
+  part_is_more g.M.Framed.is_at g.M.Framed.is_hopeless g.M.Framed.are_parts _ c.args.found c.args.count
       (found_now g.M.Framed.is_at g.M.Framed.is_hopeless g.M.Framed.are_parts false _ _ _ _ _ _ c.args.found c.requires.found c.in-Ok-false.ensures.took) c.requires.body (c.in-Ok-false.ensures.few (λ e. absurd (true≢false (let f : c.in-Ok-false.field-0 ≡ true = cc in sym f ∙ c.in-Ok-false.field-0-test)))),
-      c.in-Ok-false.ensures.end (ap Ok c.in-Ok-false.field-0-test))
+  c.in-Ok-false.ensures.end (ap Ok c.in-Ok-false.field-0-test),
+)
 
 pub returns-in-Err-clause-filled : goal.returns-in-Err-clause-filled
 returns-in-Err-clause-filled g c =
@@ -36,4 +37,4 @@ returns-in-Err-clause-filled g c =
 pub returns-in-Err-clause-decided : goal.returns-in-Err-clause-decided
 returns-in-Err-clause-decided g c =
     part_is_more g.M.Framed.is_at g.M.Framed.is_hopeless g.M.Framed.are_parts _ c.args.found c.args.count
-      (found_now g.M.Framed.is_at g.M.Framed.is_hopeless g.M.Framed.are_parts true _ _ _ _ _ _ c.args.found c.requires.found c.in-Err.ensures.took) c.requires.body (c.in-Err.ensures.few (λ e. cc))
+    (found_now g.M.Framed.is_at g.M.Framed.is_hopeless g.M.Framed.are_parts true _ _ _ _ _ _ c.args.found c.requires.found c.in-Err.ensures.took) c.requires.body (c.in-Err.ensures.few (λ e. cc))

@@ -10,7 +10,7 @@ returns-in_err-count-clause-took g c =
     let i = c.self.inside in
     let failed : has_failed c.from_residual.result ≡ true = search rules in
     took_failed (has_failed c.from_residual.result) c.args.self.now.held i.bytes.items c.read_at.new.bytes.items i.from i.to _ _ _ _ failed (ap (λ (b : Buffered). b.held) c.self.view_is) (omega arith) c.in_err-count.ensures.before
-      c.in_err-count.ensures.came c.in_err-count.ensures.connections
+    c.in_err-count.ensures.came c.in_err-count.ensures.connections
 
 pub returns-in_err-count-clause-same : goal.returns-in_err-count-clause-same
 returns-in_err-count-clause-same g c not_so =
@@ -21,7 +21,7 @@ pub returns-clause-took : goal.returns-clause-took
 returns-clause-took g c =
     let i = c.self.inside in
     took_count c.args.self.now.held i.bytes.items c.read_at.new.bytes.items i.from i.to c.in_ok-count.count _ _ _ _ (ap (λ (b : Buffered). b.held) c.self.view_is) (omega arith) (omega (arith, c.in_ok-count.ensures.bound))
-      c.in_ok-count.ensures.before c.in_ok-count.ensures.came.0 c.in_ok-count.ensures.connections
+    c.in_ok-count.ensures.before c.in_ok-count.ensures.came.0 c.in_ok-count.ensures.connections
 
 pub returns-clause-same : goal.returns-clause-same
 returns-clause-same g c not_so =
