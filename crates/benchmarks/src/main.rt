@@ -11,6 +11,7 @@ mod quota_turns;
 mod rating_turns;
 mod smf_turns;
 mod table_turns;
+mod wire_turns;
 
 use crate::account_turns::charges;
 use crate::element_turns::{hashed_records, read_records, summed_records};
@@ -23,6 +24,7 @@ use crate::quota_turns::turns_of_use;
 use crate::rating_turns::prices;
 use crate::smf_turns::{meter_turns, smf_times, smf_turns};
 use crate::table_turns::table_turns;
+use crate::wire_turns::{parsed_heads, read_messages};
 use edge::StreamSource;
 use rows::number;
 use std::alloc::Global;
@@ -78,6 +80,8 @@ fn checksum(alloc: Global, call: &str, numbers: &[u64]) -> Result<Option<u64>, O
         ("ber-read", [count]) => Ok(Some(read_records(alloc, *count)?)),
         ("ber-hash", [count]) => Ok(Some(hashed_records(alloc, *count)?)),
         ("ber-sum", [count]) => Ok(Some(summed_records(alloc, *count)?)),
+        ("wire-read", [piece, turns]) => Ok(Some(read_messages(alloc, *piece, *turns)?)),
+        ("wire-parse", [turns]) => Ok(Some(parsed_heads(alloc, *turns)?)),
         ("quotas", [turns]) => Ok(Some(turns_of_use(alloc, *turns))),
         ("moments-read", [turns]) => Ok(Some(read_texts(*turns))),
         ("moments-write", [turns]) => Ok(Some(written_texts(*turns))),
