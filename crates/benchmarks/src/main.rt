@@ -2,8 +2,10 @@
 #![tactic(auto)]
 
 mod account_turns;
+mod disk_turns;
 mod draws;
 mod element_turns;
+mod journal_turns;
 mod line_turns;
 mod message_turns;
 mod moment_turns;
@@ -14,7 +16,9 @@ mod table_turns;
 mod wire_turns;
 
 use crate::account_turns::charges;
+use crate::disk_turns::{print_bytes, print_file};
 use crate::element_turns::{hashed_records, read_records, summed_records};
+use crate::journal_turns::{append_to_file, list_of_file, print_stop};
 use crate::line_turns::parsed_lines;
 use crate::message_turns::{
     parsed_values, printed_values, read_requests, request_size, written_replies,
@@ -101,6 +105,20 @@ fn print_times(rt: &HostRuntime, sessions: u64, turns: u64) -> io::Result<ExitCo
     Ok(ExitCode::SUCCESS)
 }
 
+// What a turn of a journal answered, where there is such a turn and the disk did not refuse it.
+fn journal(rt: &HostRuntime, call: &str, numbers: &[u64]) -> io::Result<Option<u64>> {
+    match (call, numbers) {
+        ("journal-append", [count, size]) => append_to_file(rt, *count, *size, false),
+        ("journal-numbers", [count, size]) => append_to_file(rt, *count, *size, true),
+        ("journal-read", []) => list_of_file(rt, false),
+        ("journal-list", []) => list_of_file(rt, true),
+        ("journal-file", []) => print_file(rt),
+        ("journal-bytes", [limit]) => print_bytes(rt, (*limit).clamp(17, 1 << 30) as u32),
+        ("journal-stop", [call, fill]) => print_stop(rt, (*call).min(1000) as u32, *fill),
+        _ => Ok(None),
+    }
+}
+
 // The message lines of the input, whose bodies are read as JSON alone.
 fn lines(rt: &HostRuntime) -> Result<Option<u64>, OutOfMemory> {
     let mut input = StreamSource::new(rt.alloc(), rt.reader())?;
@@ -116,6 +134,8 @@ fn run(rt: &HostRuntime) -> io::Result<ExitCode> {
     }
     let found = if call.as_str() == "json-lines" {
         lines(rt)
+    } else if call.as_str().starts_with("journal-") {
+        Ok(journal(rt, call.as_str(), numbers.as_slice())?)
     } else {
         checksum(rt.alloc(), call.as_str(), numbers.as_slice())
     };
