@@ -1,7 +1,8 @@
 #!/usr/bin/env python3
 """tables.py: works the last column of crates/acceptance/stdin out anew, by models that know nothing of the program, and
 writes the counts of crates/acceptance/stdout. A new case is a line of stdin with anything in its last column. The tables
-once, quota, events, many-events and devices have answers that were worked out by hand; their lines stay as they are.
+once, quota, events, many-events and devices have answers that were worked out by hand; their lines stay as they are. With
+--check nothing is written, and a line whose answer is another is a failure.
 """
 import sys
 from pathlib import Path
@@ -56,9 +57,12 @@ def main():
             print(f"{line}\nis {worked}")
         counts[table] += 1
         lines.append("\t".join((table, *fields, worked)))
+    print(f"{len(lines)} lines, {changed} changed")
+    if "--check" in sys.argv:
+        return 1 if changed else 0
     (FOLDER / "stdin").write_text("".join(f"{line}\n" for line in lines))
     (FOLDER / "stdout").write_text("".join(f"{table} {count}\n" for table, count in counts.items()))
-    print(f"{len(lines)} lines, {changed} changed")
+    return 0
 
 
 sys.exit(main())
