@@ -5,10 +5,12 @@ ghost use Rattle.edge.specs.Disk.{overwritten, Torn, EachFollows, KeepsImages, I
 
 use crate::traits::{Counted, Failed};
 
-/// A disk failed, or refused an epoch below its own, which it names.
+/// Why a disk did not do what it was asked (this product's own).
 #[derive(Clone, Copy, Debug, PartialEq, Eq)]
 pub enum DiskRefusal {
+    /// It failed, and counted it.
     Failed,
+    /// It has a greater epoch, this one.
     Fenced(u64),
 }
 

@@ -8,8 +8,11 @@ use std::marker::Model;
 /// What a call meets.
 #[derive(Clone, Copy, PartialEq, Eq)]
 pub enum Turn {
+    /// Nothing.
     Goes,
+    /// A failure of this call.
     Fails,
+    /// A stop, at which the call is not made.
     Stops,
 }
 

@@ -1,11 +1,9 @@
 //! What the outside gives and takes: sources, sinks and disks, each with a count of its faults.
 //!
-//! What it promises: a call answers that it failed only where the device's count of faults rose in that call, and
-//! bytes are told where a device tells them. `Stream`, the parent of `Source` and `Sink`, tells of each connection
-//! its bytes read, left and written, whether a read or a write on it failed, its peer, and whether a door is
-//! closed, so that no clause of them changes when links and doors come. Of a `Disk` contracts see what a read
-//! gives, its epoch, and what a crash at this moment may leave. A further device of bytes is a trait whose parent
-//! is `Stream`, with its form in memory in a file of its own.
+//! Each device is a trait whose ghost members are what it may tell, and a failure comes only where its count of faults
+//! rose. A form in memory tells all, and its methods say exactly when they fail and what they leave, by a script of its
+//! calls. An adapter over the system tells nothing of content, and is believed to do what its trait says. A new device
+//! takes a trait, a form in memory and an adapter, each in a file of its own.
 #![tactic(auto)]
 
 mod disk;
