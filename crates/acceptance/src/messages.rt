@@ -1,10 +1,10 @@
 //! Charging messages: what is read of a body, and how it is written again.
 use crate::values::small;
 use charging_json::{
-    cause_text, read_reply, read_request, session_location, write_reply, write_request,
+    cause_of, read_reply, read_request, session_location, write_reply, write_request,
 };
 use std::alloc::Global;
-use units::{JsonRefusal, Operation, OutOfMemory, Reply};
+use units::{JsonRefusal, Operation, OutOfMemory, Reply, name_of_cause};
 
 // A word, and the field of a refusal that names one.
 fn refused(alloc: Global, word: &str, refusal: &JsonRefusal) -> Result<String, OutOfMemory> {
@@ -25,7 +25,11 @@ pub fn request(alloc: Global, operation: &str, body: &str) -> Result<String, Out
     };
     let request = match read_request(alloc, operation, body.as_bytes()) {
         Ok(request) => request,
-        Err(refusal) => return refused(alloc, cause_text(operation, &refusal), &refusal),
+        Err(refusal) => return refused(
+            alloc,
+            name_of_cause(cause_of(operation, &refusal)),
+            &refusal,
+        ),
     };
     let written = write_request(alloc, &request)?;
     let mut text = String::from_str(

@@ -7,7 +7,6 @@ pub mod OneRow
 pub mod PlainLines
 pub mod PlainPieces
 pub mod Begun
-pub mod Bodies
 pub mod NamesInOrder
 pub mod ClapFaults
 pub mod OtherWords

@@ -1,6 +1,7 @@
 -- What a run prints: a line for each operator's row and each message, then the account lines (this product's own).
 use Rattle.std.specs.Prelude.{ℕ, List, [], ◌∷◌, ◌++◌, Option, Some, None, Result, Ok, Err, codes}
 use Rattle.std.specs.Fmt.{decimal}
+use Rattle.units.specs.declared.words.Cause.TheVariants as cause
 use Rattle.units.specs.declared.reply.Reply.{Reply}
 use Rattle.units.specs.declared.request.Request.{Request}
 use Rattle.charging_json.specs.ReplyWritten.{location_of, reply_text, status_of}
@@ -58,10 +59,10 @@ after_command commands (Some command) = kept commands command (decision commands
 -- the problem that refuses a request (TS 32.291, 6.1.7; the causes are this product's own); the two refusals of top-ups are no request's
 abbrev pub refusal_reply : ChfRefusal → Option Reply
 refusal_reply UnknownAccount = None
-refusal_reply SessionExists = Some (problem 403 (codes "SESSION_EXISTS") None)
-refusal_reply (SessionClosed last) = Some (problem 403 (codes "SESSION_CLOSED") None)
-refusal_reply (SequencePassed last) = Some (problem 400 (codes "SEQUENCE_PASSED") None)
-refusal_reply UnknownReference = Some (problem 404 (codes "UNKNOWN_REFERENCE") None)
+refusal_reply SessionExists = Some (problem 403 cause.SessionExists None)
+refusal_reply (SessionClosed last) = Some (problem 403 cause.SessionClosed None)
+refusal_reply (SequencePassed last) = Some (problem 400 cause.SequencePassed None)
+refusal_reply UnknownReference = Some (problem 404 cause.UnknownReference None)
 refusal_reply TopUpDiffers = None
 
 -- the reply that a request came to

@@ -1,5 +1,6 @@
 -- The rows of the command `meter`: `moment,up,down,seconds`, each a usage report of group 0, numbered from 1 (this product's own).
 use Rattle.std.specs.Prelude.{ℕ, ◌≡◌, ◌+◌, ◌-◌, ◌^◌, List, [], ◌∷◌, Option, Some, None, Result, Ok, Err, option_and_then}
+use Rattle.units.specs.Limits.{greatest_moment}
 use Rattle.units.specs.Cut.{AreWidestCuts, whole_hour}
 use Rattle.units.specs.declared.report.Report.{Report}
 use Rattle.meter.specs.Admission.{answer_of}
@@ -16,7 +17,7 @@ abbrev pub report_from : ℕ → List ℕ → List ℕ → List ℕ → List ℕ
 report_from number moment up down seconds =
     option_and_then (λ m. option_and_then (λ u. option_and_then (λ d. option_and_then (λ s.
     Some (record { number = number; group = 0; up = u; down = d; seconds = s; moment = m }))
-    (number_of (2 ^ 32 - 1) seconds)) (number_of (2 ^ 64 - 1) down)) (number_of (2 ^ 64 - 1) up)) (number_of 3155759999 moment)
+    (number_of (2 ^ 32 - 1) seconds)) (number_of (2 ^ 64 - 1) down)) (number_of (2 ^ 64 - 1) up)) (number_of greatest_moment moment)
 
 -- the report that a row gives: it has four fields
 abbrev pub report_of : ℕ → List (List ℕ) → Option Report

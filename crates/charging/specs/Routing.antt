@@ -1,9 +1,9 @@
 -- What a message asks of the charging function: its path, its method and its body are looked at, in this order (TS 32.291, 6.1.3; the order is this product's own).
 use Rattle.std.specs.Prelude.{ℕ, ◌-◌, ◌^◌, ◌==◌, nat_lt, bytes_eq, List, [], ◌∷◌, length, take, drop, Option, Some, None, Result, Ok, Err, if◌then◌else◌, codes}
-use Rattle.std.specs.Str.{is_utf8}
-use Rattle.serde_json.specs.Data.{Data}
-use Rattle.serde_json.specs.Read.{read}
 use Rattle.rows.specs.Number.{number_of}
+use Rattle.units.specs.Words.{name_of_cause}
+use Rattle.units.specs.declared.words.Cause.{Cause}
+use Rattle.units.specs.declared.words.Cause.TheVariants.{NotFound}
 use Rattle.units.specs.declared.refusal.JsonRefusal.{JsonRefusal}
 use Rattle.units.specs.declared.refusal.JsonRefusal.TheVariants.{NotJson, Missing, Wrong, OutOfMemory}
 use Rattle.units.specs.declared.reply.Reply.{Reply}
@@ -12,8 +12,7 @@ use Rattle.units.specs.declared.request.Operation.{Operation}
 use Rattle.units.specs.declared.request.Operation.TheVariants.{Create, Update, Release}
 use Rattle.units.specs.declared.request.Request.{Request}
 use Rattle.charging_json.specs.Cause.{cause_of}
-use Rattle.charging_json.specs.Fields.{is_object}
-use Rattle.charging_json.specs.Request.{request_of}
+use Rattle.charging_json.specs.Request.{request_in}
 use Rattle.chf_rows.specs.Pieces.{piece_length}
 use Rattle.charging.specs.declared.item.Method.{Method}
 use Rattle.charging.specs.declared.item.Method.TheVariants.{Post, Put, Delete}
@@ -23,12 +22,12 @@ use Rattle.charging.specs.Items.{begins_with}
 -- ---- problems
 
 -- problem details as a reply (TS 29.571, 5.2.4.1)
-abbrev pub problem : ℕ → List ℕ → Option (List ℕ) → Reply
-problem status cause detail = reply.Refused (record { status = status; cause = cause; detail = detail })
+abbrev pub problem : ℕ → Cause → Option (List ℕ) → Reply
+problem status cause detail = reply.Refused (record { status = status; cause = name_of_cause cause; detail = detail })
 
 -- no path of the table, and another method than its own
 abbrev pub not_found : ℕ → Reply
-not_found status = problem status (codes "NOT_FOUND") None
+not_found status = problem status NotFound None
 
 -- the field that a refused body is refused for
 abbrev pub field_of : JsonRefusal → Option (List ℕ)
@@ -71,24 +70,6 @@ operation_in path = if begins_with path collection then below (drop (length coll
 -- the operation that a path names; its query is read past, and nothing is decoded
 abbrev pub operation_at : List ℕ → Option Operation
 operation_at path = operation_in (take (piece_length 63 path) path)
-
--- ---- bodies
-
-abbrev pub object_of : Option Data → Option Data
-object_of None = None
-object_of (Some value) = if is_object value then Some value else None
-
--- the JSON object that a body is (RFC 8259)
-abbrev pub object_in : List ℕ → Option Data
-object_in body = if is_utf8 body then object_of (read body) else None
-
-abbrev pub request_by : Operation → Option Data → Result Request JsonRefusal
-request_by operation None = Err NotJson
-request_by operation (Some value) = request_of operation value
-
--- the request that a body is, or why it is none
-abbrev pub request_in : Operation → List ℕ → Result Request JsonRefusal
-request_in operation body = request_by operation (object_in body)
 
 -- ---- messages
 

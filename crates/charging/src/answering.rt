@@ -14,7 +14,7 @@ use crate::routing::{problem, request_at};
 use chf_core::{Chf, ChfRefusal, ChfSetup, Command, Decision, Outcome};
 use chf_rows::read_operator_row;
 use std::alloc::{AllocError, Global};
-use units::{OutOfMemory, Reply, Text};
+use units::{Cause, OutOfMemory, Reply, Text};
 
 /// The number of a refusal.
 fn refusal_number(refusal: ChfRefusal) -> u16
@@ -67,10 +67,10 @@ fn refusal_reply(alloc: Global, refusal: ChfRefusal) -> Result<Option<Reply>, Al
 {
     match refusal {
         ChfRefusal::UnknownAccount => Ok(None),
-        ChfRefusal::SessionExists => Ok(Some(problem(alloc, 403, "SESSION_EXISTS")?)),
-        ChfRefusal::SessionClosed { .. } => Ok(Some(problem(alloc, 403, "SESSION_CLOSED")?)),
-        ChfRefusal::SequencePassed { .. } => Ok(Some(problem(alloc, 400, "SEQUENCE_PASSED")?)),
-        ChfRefusal::UnknownReference => Ok(Some(problem(alloc, 404, "UNKNOWN_REFERENCE")?)),
+        ChfRefusal::SessionExists => Ok(Some(problem(alloc, 403, Cause::SessionExists)?)),
+        ChfRefusal::SessionClosed { .. } => Ok(Some(problem(alloc, 403, Cause::SessionClosed)?)),
+        ChfRefusal::SequencePassed { .. } => Ok(Some(problem(alloc, 400, Cause::SequencePassed)?)),
+        ChfRefusal::UnknownReference => Ok(Some(problem(alloc, 404, Cause::UnknownReference)?)),
         ChfRefusal::TopUpDiffers => Ok(None),
     }
 }

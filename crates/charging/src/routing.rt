@@ -1,25 +1,24 @@
 //! What a message asks of the charging function: its path, its method and its body are looked at, in this order.
 ghost use Rattle.std.specs.Prelude.{◌≡◌, ◌⊎◌, Err, IfOk, Ok, Some, None, option_map};
-ghost use Rattle.units.specs.Answers.{IsOrNoMemory};
-ghost use Rattle.units.specs.declared.refusal.JsonRefusal.TheVariants as refusal;
-ghost use Rattle.charging.specs.Routing.{below, body_problem, by_method, by_operation, collection, deed, field_of, in_session, not_found, operation_at, operation_in, or_problem, problem, reference_in, request_at, request_in};
+ghost use Rattle.charging_json.specs.Request.{request_in};
+ghost use Rattle.charging.specs.Routing.{below, body_problem, by_method, by_operation, collection, deed, field_of, in_session, not_found, operation_at, operation_in, or_problem, problem, reference_in, request_at};
 
 use crate::item::Method;
 use crate::line_items::after_word;
-use charging_json::{cause_text, read_request};
+use charging_json::{cause_of, read_request};
 use chf_rows::piece_length;
 use rows::number;
 use std::alloc::{AllocError, Global};
-use units::{JsonRefusal, Operation, OutOfMemory, Problem, Reply, Request, Text, copy};
+use units::{Cause, JsonRefusal, Operation, OutOfMemory, Problem, Reply, Request, Text, copy, name_of_cause};
 
 /// Problem details without a detail.
-pub fn problem(alloc: Global, status: u16, cause: &str) -> Result<Reply, AllocError>
-    ensures { IfOk result (λ r. r ≡ problem status cause.now None) }
+pub fn problem(alloc: Global, status: u16, cause: Cause) -> Result<Reply, AllocError>
+    ensures { IfOk result (λ r. r ≡ problem status cause None) }
 {
     Ok(Reply::Refused {
         problem: Problem {
             status,
-            cause: Text::from_text(alloc, cause)?,
+            cause: Text::from_text(alloc, name_of_cause(cause))?,
             detail: None,
         },
     })
@@ -98,17 +97,10 @@ fn body_problem(
     Ok(Reply::Refused {
         problem: Problem {
             status: 400,
-            cause: Text::from_text(alloc, cause_text(operation, refusal))?,
+            cause: Text::from_text(alloc, name_of_cause(cause_of(operation, refusal)))?,
             detail,
         },
     })
-}
-
-// The request that a body is.
-fn request_in(alloc: Global, operation: Operation, body: &[u8]) -> Result<Request, JsonRefusal>
-    ensures { IsOrNoMemory refusal.OutOfMemory result (request_in operation body.now) }
-{
-    read_request(alloc, operation, body)
 }
 
 /// The request that a message brings, or the reply that refuses it.
@@ -121,12 +113,12 @@ pub fn request_at(
     ensures { IfOk result (λ r. r ≡ request_at method path.now body.now) }
 {
     let Some(operation) = operation_at(path.as_str().as_bytes()) else {
-        return Ok(Err(problem(alloc, 404, "NOT_FOUND")?));
+        return Ok(Err(problem(alloc, 404, Cause::NotFound)?));
     };
     match method {
         Method::Post => by_body(alloc, operation, body),
-        Method::Put => Ok(Err(problem(alloc, 405, "NOT_FOUND")?)),
-        Method::Delete => Ok(Err(problem(alloc, 405, "NOT_FOUND")?)),
+        Method::Put => Ok(Err(problem(alloc, 405, Cause::NotFound)?)),
+        Method::Delete => Ok(Err(problem(alloc, 405, Cause::NotFound)?)),
     }
 }
 
@@ -137,7 +129,7 @@ fn by_body(
 ) -> Result<Result<Request, Reply>, OutOfMemory>
     ensures { IfOk result (λ r. r ≡ or_problem operation (request_in operation body.now)) }
 {
-    match request_in(alloc, operation, body) {
+    match read_request(alloc, operation, body) {
         Ok(request) => Ok(Ok(request)),
         Err(JsonRefusal::OutOfMemory) => Err(OutOfMemory),
         Err(refusal) => Ok(Err(body_problem(alloc, operation, &refusal)?)),

@@ -10,7 +10,7 @@ use Rattle.serde_json.specs.Find.{get_member}
 use Rattle.serde_json.specs.View.{items_of}
 use Rattle.serde_json.proofs.Views.{get_member-put, get_member-put_other}
 use Rattle.charging_json.specs.Fields.{unless_null, given, optional, each, list_of, or_empty, allowed, required_if}
-use Rattle.charging_json.specs.Ranges.{IfGiven}
+use Rattle.units.specs.Ranges.{IfGiven}
 use Rattle.charging_json.specs.Usage.{count, short, short_list_of}
 use Rattle.charging_json.specs.Written.{put_if, with_fields, object_of, listed}
 

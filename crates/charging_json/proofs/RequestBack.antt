@@ -2,7 +2,8 @@
 use Rattle.std.proofs.Common.{◌≡◌, ◌≤◌, ◌+◌, ◌^◌, ◌==◌, ℕ, Bool, true, false, not, ◌||◌, ◌&&◌, List, map, nat_le, Option, Some, None, Ok, option_map, refl, sym, ◌∙◌, ap, arith, codes, if◌then◌else◌}
 use Rattle.std.proofs.lemmas.Bool.Decides.{nat_tests}
 use Rattle.serde_json.specs.Data.{Data, string}
-use Rattle.rows.specs.Name.{spells_name}
+use Rattle.units.specs.Names.{spells_name, is_address}
+use Rattle.units.specs.Ranges.{is_create}
 use Rattle.moments.specs.Text.{time_of, time_text}
 use Rattle.units.specs.declared.request.Ask.{Ask}
 use Rattle.units.specs.declared.request.Used.{Used}
@@ -12,13 +13,13 @@ use Rattle.units.specs.declared.request.Operation.{Operation}
 use Rattle.charging_json.specs.Fields.{unless_null, given, is_object, number_to, number_32, volume, time, name, text_that, optional, list_of, or_empty, allowed, required_if}
 use Rattle.charging_json.specs.Triggers.{sound_kind}
 use Rattle.charging_json.specs.Usage.{times_of, counts_of, with_counts, used_of, ask_of, with_ask, containers_of, entry_of, short_list_of}
-use Rattle.charging_json.specs.Request.{consumer_of, charging_id_place, given_within, either_place, is_address, is_create, is_again, with_request, request_of}
+use Rattle.charging_json.specs.Request.{consumer_of, charging_id_place, given_within, either_place, is_again, with_request, request_of}
 use Rattle.serde_json.specs.Find.{as_bool}
 use Rattle.std.specs.Option.{is_some}
 use Rattle.std.proofs.lemmas.Bool.{and_parts, true≢false}
 use Rattle.charging_json.specs.Written.{number_data, time_data, listed}
 use Rattle.charging_json.specs.RequestWritten.{trigger_data, total_of, span_data, used_data, used_fields, ask_data, ask_fields, usage_data, usage_fields, consumer_data, again_data, request_data, request_fields}
-use Rattle.charging_json.specs.Ranges.{IsKind, IsName, IsAddress, IsVolume, Is32, FitsContainer, FitsAsk, FitsUsage, FitsRequest}
+use Rattle.units.specs.Ranges.{IsKind, IsName, IsAddress, IsVolume, Is32, FitsContainer, FitsAsk, FitsUsage, FitsRequest}
 use Rattle.charging_json.proofs.LookUp.{look_up, not_null, unless_empty, empty_again, list_back, short_list_back, optional_is, given_back, present, allowed_is, required_if_is}
 
 -- each moment's text reads as it

@@ -2,10 +2,9 @@
 use Rattle.std.specs.Prelude.{ℕ, List, Option, Some, None, bytes_eq, if◌then◌else◌, option_map, option_and_then, codes}
 use Rattle.serde_json.specs.Data.{Data}
 use Rattle.serde_json.specs.Find.{as_str}
+use Rattle.units.specs.Words.{code_named, action_named}
 use Rattle.units.specs.declared.answer.Code.{Code}
-use Rattle.units.specs.declared.answer.Code.TheVariants.{Success, Denied, NotApplicable, LimitReached, RatingFailed}
 use Rattle.units.specs.declared.answer.Action.{Action}
-use Rattle.units.specs.declared.answer.Action.TheVariants.{Terminate, Redirect, RestrictAccess}
 use Rattle.units.specs.declared.answer.Amount.{Amount}
 use Rattle.units.specs.declared.answer.Amount.TheVariants.{Volume, Seconds}
 use Rattle.units.specs.declared.answer.UnitInfo.{UnitInfo}
@@ -15,27 +14,11 @@ use Rattle.charging_json.specs.declared.information.Bounds.{Bounds}
 use Rattle.charging_json.specs.Fields.{given, is_object, number_32, volume, time, optional, needed, or_empty}
 use Rattle.charging_json.specs.Rules.{rules_of}
 
--- the result code of a text; one that is unknown is read as END_USER_SERVICE_DENIED (this product's own)
-abbrev pub code_named : List ℕ → Code
-code_named text =
-    if bytes_eq text (codes "SUCCESS") then Success
-    else if bytes_eq text (codes "QUOTA_MANAGEMENT_NOT_APPLICABLE") then NotApplicable
-    else if bytes_eq text (codes "QUOTA_LIMIT_REACHED") then LimitReached
-    else if bytes_eq text (codes "RATING_FAILED") then RatingFailed
-    else Denied
-
 -- a result code, which is any text
 abbrev pub code : Data → Option Code
 code value = option_map code_named (as_str value)
 
 -- the action of a final unit indication
-abbrev pub action_named : List ℕ → Option Action
-action_named text =
-    if bytes_eq text (codes "TERMINATE") then Some Terminate
-    else if bytes_eq text (codes "REDIRECT") then Some Redirect
-    else if bytes_eq text (codes "RESTRICT_ACCESS") then Some RestrictAccess
-    else None
-
 abbrev pub action : Data → Option Action
 action value = option_and_then action_named (as_str value)
 

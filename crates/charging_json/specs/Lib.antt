@@ -1,14 +1,13 @@
 pub mod Fields
+pub mod Body
 pub mod Triggers
 pub mod Usage
 pub mod Request
 pub mod Written
 pub mod RequestWritten
-pub mod Ranges
 pub mod Cause
 pub mod Rules
 pub mod Location
 pub mod Information
 pub mod Reply
 pub mod ReplyWritten
-pub mod ReplyRanges

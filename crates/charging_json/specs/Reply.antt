@@ -1,30 +1,24 @@
 -- The reply to a charging data request (TS 32.291, 6.1.6.2.1.6 and 6.1.7; TS 29.571, ProblemDetails; in this product's profile).
-use Rattle.std.specs.Prelude.{◌≡◌, ◌⊎◌, ℕ, ◌==◌, Bool, true, false, List, Option, Some, None, Result, Ok, bytes_eq, if◌then◌else◌, option_map, option_and_then, codes}
+use Rattle.std.specs.Prelude.{ℕ, ◌==◌, Bool, List, Option, Some, None, Result, Ok, Err, if◌then◌else◌, option_map, option_and_then, codes}
 use Rattle.serde_json.specs.Data.{Data}
 use Rattle.serde_json.specs.Find.{as_str}
+use Rattle.units.specs.Words.{handling_named, failover_named}
 use Rattle.units.specs.declared.answer.Answer.{Answer}
 use Rattle.units.specs.declared.answer.Handling.{Handling}
-use Rattle.units.specs.declared.answer.Handling.TheVariants.{Terminate, Continue, RetryAndTerminate}
 use Rattle.units.specs.declared.answer.UnitInfo.{UnitInfo}
 use Rattle.units.specs.declared.trigger.TriggerRule.{TriggerRule}
 use Rattle.units.specs.declared.reply.Problem.{Problem}
 use Rattle.units.specs.declared.reply.Reply.{Reply}
 use Rattle.units.specs.declared.reply.Reply.TheVariants.{Created, Updated, Released, Refused}
 use Rattle.units.specs.declared.refusal.JsonRefusal.{JsonRefusal}
+use Rattle.units.specs.declared.refusal.JsonRefusal.TheVariants.{NotJson}
 use Rattle.charging_json.specs.Fields.{given, is_object, number_32, time, optional, list_of, or_empty, required, allowed, after}
 use Rattle.charging_json.specs.Rules.{rules_of}
 use Rattle.charging_json.specs.Information.{info_of}
 use Rattle.charging_json.specs.Location.{reference_of}
-use Rattle.charging_json.specs.Request.{IsBody}
+use Rattle.charging_json.specs.Body.{object_in}
 
--- the failure handling of a text (TS 32.291, 6.1.6.3.12)
-abbrev pub handling_named : List ℕ → Option Handling
-handling_named text =
-    if bytes_eq text (codes "TERMINATE") then Some Terminate
-    else if bytes_eq text (codes "CONTINUE") then Some Continue
-    else if bytes_eq text (codes "RETRY_AND_TERMINATE") then Some RetryAndTerminate
-    else None
-
+-- the failure handling that a value names
 abbrev pub handling : Data → Option Handling
 handling value = option_and_then handling_named (as_str value)
 
@@ -32,13 +26,7 @@ handling value = option_and_then handling_named (as_str value)
 abbrev pub result_of : Data → Option (Option Handling)
 result_of value = if is_object value then optional handling (given (codes "failureHandling") value) else None
 
--- whether session failover is supported (TS 32.291, 6.1.6.3.13)
-abbrev pub failover_named : List ℕ → Option Bool
-failover_named text =
-    if bytes_eq text (codes "FAILOVER_SUPPORTED") then Some true
-    else if bytes_eq text (codes "FAILOVER_NOT_SUPPORTED") then Some false
-    else None
-
+-- whether a value says that session failover is supported
 abbrev pub failover : Data → Option Bool
 failover value = option_and_then failover_named (as_str value)
 
@@ -92,12 +80,10 @@ reply_of status location value =
     else if status == 200 then updated_of value
     else refused_of status value
 
--- the grammar: a response with this status, Location and body is this reply. The body of status 204 is not read
-pub record SpellsObject (status : ℕ) (location : Option (List ℕ)) (body : List ℕ) (reply : Reply) : Type 0 where
-  pub with_body : (status == 204) ≡ false
-  pub value : Data
-  pub object : IsBody body value
-  pub spelled : reply_of status location value ≡ Ok reply
+abbrev pub reply_by : ℕ → Option (List ℕ) → Option Data → Result Reply JsonRefusal
+reply_by status location None = Err NotJson
+reply_by status location (Some value) = reply_of status location value
 
-abbrev pub SpellsReply : ℕ → Option (List ℕ) → List ℕ → Reply → Type 0
-SpellsReply status location body reply = ((status ≡ 204) × (reply ≡ Released)) ⊎ SpellsObject status location body reply
+-- the reply that a response with this status, Location and body is, or why it is none. The body of status 204 is not read
+abbrev pub reply_in : ℕ → Option (List ℕ) → List ℕ → Result Reply JsonRefusal
+reply_in status location body = if status == 204 then Ok Released else reply_by status location (object_in body)

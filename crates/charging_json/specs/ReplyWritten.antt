@@ -2,13 +2,10 @@
 use Rattle.std.specs.Prelude.{ℕ, Bool, true, false, List, [], ◌∷◌, Option, Some, None, option_map, map, codes}
 use Rattle.serde_json.specs.Data.{Data, string}
 use Rattle.serde_json.specs.Written.{compact_text}
+use Rattle.units.specs.Words.{name_of_type, name_of_category, name_of_code, name_of_action, name_of_handling, name_of_failover}
 use Rattle.units.specs.declared.answer.Answer.{Answer}
-use Rattle.units.specs.declared.answer.Code.{Code}
-use Rattle.units.specs.declared.answer.Code.TheVariants.{Success, Denied, NotApplicable, LimitReached, RatingFailed}
 use Rattle.units.specs.declared.answer.Action.{Action}
-use Rattle.units.specs.declared.answer.Action.TheVariants as action
 use Rattle.units.specs.declared.answer.Handling.{Handling}
-use Rattle.units.specs.declared.answer.Handling.TheVariants as handling
 use Rattle.units.specs.declared.answer.Amount.{Amount}
 use Rattle.units.specs.declared.answer.Amount.TheVariants.{Volume, Seconds}
 use Rattle.units.specs.declared.answer.UnitInfo.{UnitInfo}
@@ -16,36 +13,8 @@ use Rattle.units.specs.declared.trigger.TriggerRule.{TriggerRule}
 use Rattle.units.specs.declared.reply.Problem.{Problem}
 use Rattle.units.specs.declared.reply.Reply.{Reply}
 use Rattle.units.specs.declared.reply.Reply.TheVariants.{Created, Updated, Released, Refused}
-use Rattle.charging_json.specs.Rules.{name_of_type}
 use Rattle.charging_json.specs.Location.{location_text}
 use Rattle.charging_json.specs.Written.{object_of, listed, number_data, time_data}
-
--- ---- words
-
-abbrev pub name_of_code : Code → List ℕ
-name_of_code Success = codes "SUCCESS"
-name_of_code Denied = codes "END_USER_SERVICE_DENIED"
-name_of_code NotApplicable = codes "QUOTA_MANAGEMENT_NOT_APPLICABLE"
-name_of_code LimitReached = codes "QUOTA_LIMIT_REACHED"
-name_of_code RatingFailed = codes "RATING_FAILED"
-
-abbrev pub name_of_action : Action → List ℕ
-name_of_action action.Terminate = codes "TERMINATE"
-name_of_action action.Redirect = codes "REDIRECT"
-name_of_action action.RestrictAccess = codes "RESTRICT_ACCESS"
-
-abbrev pub name_of_handling : Handling → List ℕ
-name_of_handling handling.Terminate = codes "TERMINATE"
-name_of_handling handling.Continue = codes "CONTINUE"
-name_of_handling handling.RetryAndTerminate = codes "RETRY_AND_TERMINATE"
-
-abbrev pub name_of_failover : Bool → List ℕ
-name_of_failover true = codes "FAILOVER_SUPPORTED"
-name_of_failover false = codes "FAILOVER_NOT_SUPPORTED"
-
-abbrev pub name_of_category : Bool → List ℕ
-name_of_category true = codes "IMMEDIATE_REPORT"
-name_of_category false = codes "DEFERRED_REPORT"
 
 -- ---- objects
 

@@ -1,25 +1,18 @@
 -- A charging data request (TS 32.291, 6.1.6.2.1.1, in this product's profile).
-use Rattle.std.specs.Prelude.{◌≡◌, ℕ, ◌&&◌, nat_le, Bool, true, false, List, length, Option, Some, None, Result, Ok, option_map, codes, IsUtf8}
-use Rattle.std.specs.List.{list_all}
+use Rattle.std.specs.Prelude.{ℕ, Bool, false, List, Option, Some, None, Result, Ok, Err, option_map, codes}
 use Rattle.serde_json.specs.Data.{Data}
 use Rattle.serde_json.specs.Find.{as_bool}
-use Rattle.serde_json.specs.Read.{read}
+use Rattle.units.specs.Names.{is_address}
+use Rattle.units.specs.Ranges.{is_create}
 use Rattle.units.specs.declared.request.Operation.{Operation}
-use Rattle.units.specs.declared.request.Operation.TheVariants.{Create, Update, Release}
 use Rattle.units.specs.declared.request.Request.{Request}
 use Rattle.units.specs.declared.request.UnitUsage.{UnitUsage}
 use Rattle.units.specs.declared.refusal.JsonRefusal.{JsonRefusal}
-use Rattle.charging_json.specs.Fields.{given, is_object, number_32, time, name, text_that, list_of, or_empty, required, allowed, required_if, after}
+use Rattle.units.specs.declared.refusal.JsonRefusal.TheVariants.{NotJson}
+use Rattle.charging_json.specs.Fields.{given, number_32, time, name, text_that, list_of, or_empty, required, allowed, required_if, after}
+use Rattle.charging_json.specs.Body.{object_in}
 use Rattle.charging_json.specs.Triggers.{sound_kind}
 use Rattle.charging_json.specs.Usage.{entry_of, short_list_of}
-
--- ---- bodies
-
--- the body is UTF-8 and, as JSON, this object; arrays and objects nest at most 127 deep, it counted (RFC 8259)
-pub record IsBody (body : List ℕ) (value : Data) : Type 0 where
-  pub utf8 : IsUtf8 body
-  pub reads : read body ≡ Some value
-  pub object : is_object value ≡ true
 
 -- ---- fields
 
@@ -48,20 +41,6 @@ given_within name (Some value) = given name value
 -- where the charging id stands: at the top, else in the session's information
 abbrev pub charging_id_place : Data → Option Data
 charging_id_place value = either_place (given (codes "chargingId") value) (given_within (codes "chargingId") (given (codes "pDUSessionChargingInformation") value))
-
--- a byte from 0x21 to 0x7E
-abbrev pub is_visible : ℕ → Bool
-is_visible byte = nat_le 33 byte && nat_le byte 126
-
--- an address for notifications: 1 to 255 bytes from 0x21 to 0x7E (this product's own)
-abbrev pub is_address : List ℕ → Bool
-is_address text = nat_le 1 (length text) && nat_le (length text) 255 && list_all is_visible text
-
--- Create is where subscriber and charging id have to be there
-abbrev pub is_create : Operation → Bool
-is_create Create = true
-is_create (Update reference) = false
-is_create (Release reference) = false
 
 abbrev pub is_again : Option Bool → Bool
 is_again None = false
@@ -95,8 +74,10 @@ request_of operation value =
     after (allowed (codes "triggers") (option_map (list_of sound_kind) (given (codes "triggers") value))) (λ triggers.
     Ok (with_request operation consumer stamp number subscriber charging_id again notify usage triggers))))))))))
 
--- the grammar: the body spells this request, of this operation
-pub record SpellsRequest (operation : Operation) (body : List ℕ) (request : Request) : Type 0 where
-  pub value : Data
-  pub object : IsBody body value
-  pub spelled : request_of operation value ≡ Ok request
+abbrev pub request_by : Operation → Option Data → Result Request JsonRefusal
+request_by operation None = Err NotJson
+request_by operation (Some value) = request_of operation value
+
+-- the request that a body is for an operation, or why it is none
+abbrev pub request_in : Operation → List ℕ → Result Request JsonRefusal
+request_in operation body = request_by operation (object_in body)

@@ -1,6 +1,7 @@
 -- A charging data request as it is written (TS 32.291, 6.1.6.2.1.1, in this product's profile).
-use Rattle.std.specs.Prelude.{ℕ, ◌+◌, ◌-◌, ◌^◌, min, Bool, true, false, List, [], ◌∷◌, ◌++◌, Option, Some, None, option_map, map, codes}
+use Rattle.std.specs.Prelude.{ℕ, ◌+◌, ◌-◌, ◌^◌, min, Bool, true, false, List, [], ◌∷◌, ◌++◌, Option, Some, None, option_map, map, length, sum_by, codes}
 use Rattle.serde_json.specs.Data.{Data, boolean, string}
+use Rattle.units.specs.Words.{name_of_category}
 use Rattle.units.specs.declared.request.Ask.{Ask}
 use Rattle.units.specs.declared.request.Used.{Used}
 use Rattle.units.specs.declared.request.UnitUsage.{UnitUsage}
@@ -9,7 +10,7 @@ use Rattle.charging_json.specs.Written.{object_of, listed, number_data, time_dat
 
 -- a trigger of a request, of which only the type is kept
 abbrev pub trigger_fields : List ℕ → List (List ℕ × Option Data)
-trigger_fields kind = (codes "triggerCategory", Some (string (codes "IMMEDIATE_REPORT"))) ∷ (codes "triggerType", Some (string kind)) ∷ []
+trigger_fields kind = (codes "triggerCategory", Some (string (name_of_category true))) ∷ (codes "triggerType", Some (string kind)) ∷ []
 
 abbrev pub trigger_data : List ℕ → Data
 trigger_data kind = object_of (trigger_fields kind)
@@ -88,3 +89,7 @@ request_fields request = invocation_fields request ++ (
 
 abbrev pub request_data : Request → Data
 request_data request = object_of (request_fields request)
+
+-- how many containers a request has
+abbrev pub container_count : Request → ℕ
+container_count request = sum_by (λ u. length u.used) request.usage

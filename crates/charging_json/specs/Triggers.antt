@@ -3,17 +3,10 @@ use Rattle.std.specs.Prelude.{ℕ, ◌&&◌, nat_le, Bool, true, false, List, le
 use Rattle.std.specs.List.{list_all}
 use Rattle.serde_json.specs.Data.{Data}
 use Rattle.serde_json.specs.Find.{as_str}
-use Rattle.rows.specs.Name.{is_name_byte}
+use Rattle.units.specs.Names.{is_kind}
+use Rattle.units.specs.Words.{is_immediate}
 use Rattle.charging_json.specs.declared.triggers.Limits.{Limits}
 use Rattle.charging_json.specs.Fields.{given, number_32, volume, text_that, optional, needed}
-
--- a trigger's type: 1 to 64 bytes of 0x21 to 0x7E without comma and double quote (this product's own)
-abbrev pub is_kind : List ℕ → Bool
-is_kind text = nat_le 1 (length text) && nat_le (length text) 64 && list_all is_name_byte text
-
--- whether a category is immediate (TS 32.291, 6.1.6.3.7)
-abbrev pub is_immediate : List ℕ → Option Bool
-is_immediate text = if bytes_eq text (codes "IMMEDIATE_REPORT") then Some true else if bytes_eq text (codes "DEFERRED_REPORT") then Some false else None
 
 -- the category that a value names
 abbrev pub category : Data → Option Bool

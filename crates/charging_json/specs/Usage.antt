@@ -2,6 +2,7 @@
 use Rattle.std.specs.Prelude.{ℕ, suc, ◌+◌, ◌-◌, ◌^◌, ◌==◌, ◌&&◌, nat_le, List, Option, Some, None, if◌then◌else◌, option_map, option_and_then, unwrap_or, codes}
 use Rattle.serde_json.specs.Data.{Data, Items, no_items, item}
 use Rattle.serde_json.specs.Find.{as_array}
+use Rattle.units.specs.Limits.{most_entries}
 use Rattle.units.specs.declared.request.Ask.{Ask}
 use Rattle.units.specs.declared.request.Used.{Used}
 use Rattle.units.specs.declared.request.UnitUsage.{UnitUsage}
@@ -97,7 +98,7 @@ count (item value rest) = suc (count rest)
 
 -- a list of at most 1,000 items (this product's own)
 abbrev pub short : Items → Option Items
-short items = if nat_le (count items) 1000 then Some items else None
+short items = if nat_le (count items) most_entries then Some items else None
 
 -- a short list of values that are right
 abbrev pub short_list_of : {T : Type 0} → (Data → Option T) → Data → Option (List T)

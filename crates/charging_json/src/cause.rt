@@ -1,8 +1,8 @@
 ghost use Rattle.std.specs.Prelude.{◌≡◌};
-ghost use Rattle.charging_json.specs.Cause.{is_always_required, is_required_in_create, is_required, cause_of};
+ghost use Rattle.charging_json.specs.Cause.{is_always_required, is_required_in_create, is_required, cause_by, cause_of};
 
 use crate::request_reader::is_create;
-use units::{JsonRefusal, Operation};
+use units::{Cause, JsonRefusal, Operation};
 
 fn is_always_required(label: &str) -> bool
     ensures { result ≡ is_always_required label.now }
@@ -25,20 +25,33 @@ fn is_required(operation: Operation, label: &str) -> bool
     is_always_required(label) || is_create(operation) && is_required_in_create(label)
 }
 
-/// The cause of a refused body, for whoever answers over HTTP (TS 29.500, 5.2.7.2): `INVALID_MSG_FORMAT` for a body
-/// that is no JSON object, `MANDATORY_IE_MISSING` for a field that is absent, `MANDATORY_IE_INCORRECT` for a wrong field
-/// that the operation requires, `OPTIONAL_IE_INCORRECT` for another; `NO_MEMORY` (this product's own) where memory was wanting.
-pub fn cause_text(operation: Operation, refusal: &JsonRefusal) -> &'static str
-    ensures { result.now ≡ cause_of operation refusal.now }
+/// The cause of a refused body, for whoever answers over HTTP (TS 29.500, 5.2.7.2), where a wrong field is required or is
+/// not: `InvalidMessage` for a body that is no JSON object, `MandatoryMissing` for a field that is absent,
+/// `MandatoryIncorrect` for a wrong field that is required, `OptionalIncorrect` for another; `NoMemory` (this product's
+/// own) where memory was wanting.
+pub fn cause_by(required: bool, refusal: &JsonRefusal) -> Cause
+    ensures { result ≡ cause_by (λ label. required) refusal.now }
 {
     match refusal {
-        JsonRefusal::NotJson => "INVALID_MSG_FORMAT",
-        JsonRefusal::Missing { field: _ } => "MANDATORY_IE_MISSING",
-        JsonRefusal::Wrong { field } => if is_required(operation, field.as_str()) {
-            "MANDATORY_IE_INCORRECT"
+        JsonRefusal::NotJson => Cause::InvalidMessage,
+        JsonRefusal::Missing { .. } => Cause::MandatoryMissing,
+        JsonRefusal::Wrong { .. } => if required {
+            Cause::MandatoryIncorrect
         } else {
-            "OPTIONAL_IE_INCORRECT"
+            Cause::OptionalIncorrect
         },
-        JsonRefusal::OutOfMemory => "NO_MEMORY",
+        JsonRefusal::OutOfMemory => Cause::NoMemory,
+    }
+}
+
+/// The cause of a refused charging data request of an operation.
+pub fn cause_of(operation: Operation, refusal: &JsonRefusal) -> Cause
+    ensures { result ≡ cause_of operation refusal.now }
+{
+    match refusal {
+        JsonRefusal::Wrong { field } => cause_by(is_required(operation, field.as_str()), refusal),
+        JsonRefusal::NotJson | JsonRefusal::Missing { .. } | JsonRefusal::OutOfMemory => {
+            cause_by(true, refusal)
+        }
     }
 }

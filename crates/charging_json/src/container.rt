@@ -9,7 +9,7 @@ use crate::fields::{given, needed_number_32, optional_number, optional_number_32
 use crate::triggers::kinds;
 use serde_json::Value;
 use std::alloc::{AllocError, Global};
-use units::{List, Moment, Text, Used};
+use units::{List, MOST_ENTRIES, Moment, Text, Used};
 
 /// A container's number, seconds and octets.
 #[derive(Clone, Copy, Debug, PartialEq, Eq)]
@@ -178,20 +178,20 @@ pub fn container(
     }))
 }
 
-/// The items of a list of at most 1,000.
+/// The items of a list of at most `MOST_ENTRIES`.
 pub fn short_list(value: &Value) -> Option<&[Value]>
     ensures { option_map (λ s. items_view s.now) result ≡ option_and_then short (as_array (view value.now)) }
 {
     let items = value.as_array()?;
     let items = items.as_slice();
-    if items.len() <= 1000 {
+    if items.len() <= MOST_ENTRIES {
         Some(items)
     } else {
         None
     }
 }
 
-/// The containers of a list of at most 1,000; `None` where one is wrong.
+/// The containers of such a list; `None` where one is wrong.
 pub fn containers(
     alloc: Global,
     group: u32,

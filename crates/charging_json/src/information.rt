@@ -2,13 +2,13 @@ ghost use Rattle.std.specs.Prelude.{◌≡◌, codes, IfOk, Some, option_map};
 ghost use Rattle.serde_json.specs.View.{view};
 ghost use Rattle.charging_json.specs.Fields.{given, optional, needed, list_of, or_empty};
 ghost use Rattle.charging_json.specs.Rules.{rules_of};
-ghost use Rattle.charging_json.specs.Information.{code, code_named, action_named, action, last_units_of, amount, granted_of, bounds_of, info_of};
+ghost use Rattle.charging_json.specs.Information.{code, action, last_units_of, amount, granted_of, bounds_of, info_of};
 
 use crate::fields::{given, needed_number_32, optional_number, optional_number_32, optional_time};
 use crate::rules::rules;
 use serde_json::Value;
 use std::alloc::{AllocError, Global};
-use units::{Action, Amount, Code, List, Moment, TriggerRule, UnitInfo};
+use units::{Action, Amount, Code, List, Moment, TriggerRule, UnitInfo, action_named, code_named};
 
 /// A granted unit and the tariff time change that stands beside it.
 #[derive(Clone, Copy, Debug, PartialEq, Eq)]
@@ -26,19 +26,6 @@ pub struct Bounds {
     pub time_threshold: Option<u32>,
 }
 
-// The result code of a text.
-fn code_named(text: &str) -> Code
-    ensures { result ≡ code_named text.now }
-{
-    match text {
-        "SUCCESS" => Code::Success,
-        "QUOTA_MANAGEMENT_NOT_APPLICABLE" => Code::NotApplicable,
-        "QUOTA_LIMIT_REACHED" => Code::LimitReached,
-        "RATING_FAILED" => Code::RatingFailed,
-        _ => Code::Denied,
-    }
-}
-
 fn result_code(value: &Value) -> Option<Code>
     ensures { result ≡ needed code (given (codes "resultCode") (view value.now)) }
 {
@@ -48,18 +35,6 @@ fn result_code(value: &Value) -> Option<Code>
             None => None,
         },
         None => None,
-    }
-}
-
-// The action of a final unit indication.
-fn action_named(text: &str) -> Option<Action>
-    ensures { result ≡ action_named text.now }
-{
-    match text {
-        "TERMINATE" => Some(Action::Terminate),
-        "REDIRECT" => Some(Action::Redirect),
-        "RESTRICT_ACCESS" => Some(Action::RestrictAccess),
-        _ => None,
     }
 }
 

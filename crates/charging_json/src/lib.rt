@@ -29,9 +29,9 @@ mod rules;
 mod triggers;
 mod usage;
 
-pub use cause::cause_text;
+pub use cause::{cause_by, cause_of};
 pub use location::session_location;
 pub use reply_reader::read_reply;
-pub use reply_writer::write_reply;
+pub use reply_writer::{reply_location, reply_status, write_reply};
 pub use request_reader::read_request;
 pub use request_writer::write_request;

@@ -1,17 +1,15 @@
 ghost use Rattle.std.specs.Prelude.{◌≡◌, ◌==◌, codes, false, IfOk, Ok, Err, option_map, option_and_then};
-ghost use Rattle.serde_json.specs.Data.{Data};
 ghost use Rattle.serde_json.specs.View.{view};
 ghost use Rattle.serde_json.specs.Find.{as_str};
 ghost use Rattle.units.specs.Answers.{IsOrNoMemory};
 ghost use Rattle.units.specs.declared.refusal.JsonRefusal.TheVariants as refusal;
-ghost use Rattle.units.specs.declared.reply.Reply as spec;
 ghost use Rattle.units.specs.declared.reply.Reply.TheVariants as reply;
 ghost use Rattle.charging_json.specs.Fields.{given, number_32, time, optional, list_of, or_empty, required, allowed};
 ghost use Rattle.charging_json.specs.Rules.{rules_of};
 ghost use Rattle.charging_json.specs.Information.{info_of};
 ghost use Rattle.charging_json.specs.Location.{reference_of};
-ghost use Rattle.charging_json.specs.Request.{IsBody};
-ghost use Rattle.charging_json.specs.Reply.{handling, handling_named, result_of, failover, failover_named, flat, answer_of, problem_of, reference_given, created_of, updated_of, refused_of, reply_of, SpellsReply};
+ghost use Rattle.units.specs.ReplyRanges.{FitsReply};
+ghost use Rattle.charging_json.specs.Reply.{handling, result_of, failover, flat, answer_of, problem_of, reference_given, created_of, updated_of, refused_of, reply_of, reply_in};
 
 use crate::body::read_object;
 use crate::fields::{allowed, given, or_empty, owned, required, sequence_number, stamp};
@@ -20,19 +18,10 @@ use crate::location::reference;
 use crate::rules::rules;
 use serde_json::Value;
 use std::alloc::Global;
-use units::{Answer, Handling, JsonRefusal, List, Problem, Reply, Text, TriggerRule, UnitInfo};
-
-// The failure handling of a text.
-fn handling_named(text: &str) -> Option<Handling>
-    ensures { result ≡ handling_named text.now }
-{
-    match text {
-        "TERMINATE" => Some(Handling::Terminate),
-        "CONTINUE" => Some(Handling::Continue),
-        "RETRY_AND_TERMINATE" => Some(Handling::RetryAndTerminate),
-        _ => None,
-    }
-}
+use units::{
+    Answer, Handling, JsonRefusal, List, Problem, Reply, Text, TriggerRule, UnitInfo,
+    failover_named, handling_named,
+};
 
 fn optional_handling(value: &Value) -> Option<Option<Handling>>
     ensures { result ≡ optional handling (given (codes "failureHandling") (view value.now)) }
@@ -68,17 +57,6 @@ fn read_handling(alloc: Global, value: &Value) -> Result<Option<Option<Handling>
         None => None,
     };
     allowed(alloc, "invocationResult", found)
-}
-
-// Whether session failover is supported, from a text.
-fn failover_named(text: &str) -> Option<bool>
-    ensures { result ≡ failover_named text.now }
-{
-    match text {
-        "FAILOVER_SUPPORTED" => Some(true),
-        "FAILOVER_NOT_SUPPORTED" => Some(false),
-        _ => None,
-    }
 }
 
 fn failover(value: &Value) -> Option<bool>
@@ -236,7 +214,7 @@ fn read_value(
 /// details. `NotJson` exactly where the body is no JSON object of nesting at most 127; else `Missing` or `Wrong` for the
 /// first field in the profile's order that is absent or wrong: `invocationTimeStamp`, `invocationSequenceNumber`,
 /// `invocationResult`, `sessionFailover`, `triggers`, `multipleUnitInformation`, and at 201 the `Location`; `cause` and
-/// `detail` of a problem.
+/// `detail` of a problem. What is read can be written, and reads back.
 pub fn read_reply(
     alloc: Global,
     status: u16,
@@ -244,13 +222,8 @@ pub fn read_reply(
     body: &[u8],
 ) -> Result<Reply, JsonRefusal>
     ensures released { status ≡ 204 → result ≡ Ok reply.Released }
-    ensures object { (status == 204) ≡ false → (value : Data) → IsBody body.now value
-        → IsOrNoMemory refusal.OutOfMemory result (reply_of status (option_map (λ t. t.now) location.entry) value) }
-    ensures other { (status == 204) ≡ false → ((value : Data) → ¬ (IsBody body.now value))
-        → IsOrNoMemory refusal.OutOfMemory result (Err refusal.NotJson) }
-    ensures sound { IfOk result (λ r. SpellsReply status (option_map (λ t. t.now) location.entry) body.now r) }
-    ensures complete { (r : spec.Reply) → SpellsReply status (option_map (λ t. t.now) location.entry) body.now r
-        → IsOrNoMemory refusal.OutOfMemory result (Ok r) }
+    ensures answer { IsOrNoMemory refusal.OutOfMemory result (reply_in status (option_map (λ t. t.now) location.entry) body.now) }
+    ensures range { IfOk result (λ r. FitsReply r) }
 {
     if status == 204 {
         return Ok(Reply::Released);

@@ -1,14 +1,14 @@
 ghost use Rattle.std.specs.Prelude.{◌≡◌, IfOk, Ok, Some, option_map, map};
 ghost use Rattle.serde_json.specs.View.{view, members_view};
 ghost use Rattle.serde_json.specs.Written.{compact_text};
-ghost use Rattle.charging_json.specs.Request.{IsBody};
-ghost use Rattle.charging_json.specs.Reply.{SpellsReply};
-ghost use Rattle.charging_json.specs.ReplyRanges.{FitsReply};
-ghost use Rattle.charging_json.specs.Rules.{name_of_type};
+ghost use Rattle.charging_json.specs.Body.{object_in};
+ghost use Rattle.charging_json.specs.Reply.{reply_in};
+ghost use Rattle.units.specs.ReplyRanges.{FitsReply};
 ghost use Rattle.charging_json.specs.Written.{object_of, listed, with_fields};
-ghost use Rattle.charging_json.specs.ReplyWritten.{name_of_code, name_of_action, name_of_handling, name_of_failover, name_of_category, rule_data, octets_of, seconds_of, granted_fields, granted_data, last_units_data, bound_fields, info_data, result_data, failover_data, answer_data, problem_data, reply_text, status_of, location_of};
+ghost use Rattle.charging_json.specs.ReplyWritten.{rule_data, octets_of, seconds_of, granted_fields, granted_data, last_units_data, bound_fields, info_data, result_data, failover_data, answer_data, problem_data, reply_text, status_of, location_of};
 
 use crate::body::write_body;
+use crate::location::session_location;
 use crate::objects::{
     list_value, put_given, put_number, put_number_32, put_text, put_time, put_word,
 };
@@ -16,89 +16,10 @@ use moments::times_read_back;
 use serde_json::{Map, Value};
 use std::alloc::{AllocError, Global};
 use units::{
-    Action, Amount, Answer, Code, Handling, List, Moment, OutOfMemory, Problem, Reply, TriggerRule,
-    TriggerType, UnitInfo,
+    Action, Amount, Answer, Handling, List, Moment, OutOfMemory, Problem, Reply, Text, TriggerRule,
+    UnitInfo, name_of_action, name_of_category, name_of_code, name_of_failover, name_of_handling,
+    name_of_type,
 };
-
-fn name_of_type(trigger: TriggerType) -> &'static str
-    ensures { result.now ≡ name_of_type trigger }
-{
-    match trigger {
-        TriggerType::Final => "FINAL",
-        TriggerType::QuotaExhausted => "QUOTA_EXHAUSTED",
-        TriggerType::QuotaThreshold => "QUOTA_THRESHOLD",
-        TriggerType::ValidityTime => "VALIDITY_TIME",
-        TriggerType::QuotaHoldingTime => "QHT",
-        TriggerType::TariffTimeChange => "TARIFF_TIME_CHANGE",
-        TriggerType::VolumeLimit => "VOLUME_LIMIT",
-        TriggerType::TimeLimit => "TIME_LIMIT",
-        TriggerType::ForcedReauthorisation => "FORCED_REAUTHORISATION",
-        TriggerType::QosChange => "QOS_CHANGE",
-        TriggerType::RatChange => "RAT_CHANGE",
-        TriggerType::PlmnChange => "PLMN_CHANGE",
-        TriggerType::UserLocationChange => "USER_LOCATION_CHANGE",
-        TriggerType::UeTimezoneChange => "UE_TIMEZONE_CHANGE",
-        TriggerType::SessionAmbrChange => "SESSION_AMBR_CHANGE",
-        TriggerType::ServingNodeChange => "SERVING_NODE_CHANGE",
-        TriggerType::ManagementIntervention => "MANAGEMENT_INTERVENTION",
-        TriggerType::MaxNumberOfChangesInChargingConditions => {
-            "MAX_NUMBER_OF_CHANGES_IN_CHARGING_CONDITIONS"
-        }
-        TriggerType::AbnormalRelease => "ABNORMAL_RELEASE",
-    }
-}
-
-fn name_of_code(code: Code) -> &'static str
-    ensures { result.now ≡ name_of_code code }
-{
-    match code {
-        Code::Success => "SUCCESS",
-        Code::Denied => "END_USER_SERVICE_DENIED",
-        Code::NotApplicable => "QUOTA_MANAGEMENT_NOT_APPLICABLE",
-        Code::LimitReached => "QUOTA_LIMIT_REACHED",
-        Code::RatingFailed => "RATING_FAILED",
-    }
-}
-
-fn name_of_action(action: Action) -> &'static str
-    ensures { result.now ≡ name_of_action action }
-{
-    match action {
-        Action::Terminate => "TERMINATE",
-        Action::Redirect => "REDIRECT",
-        Action::RestrictAccess => "RESTRICT_ACCESS",
-    }
-}
-
-fn name_of_handling(handling: Handling) -> &'static str
-    ensures { result.now ≡ name_of_handling handling }
-{
-    match handling {
-        Handling::Terminate => "TERMINATE",
-        Handling::Continue => "CONTINUE",
-        Handling::RetryAndTerminate => "RETRY_AND_TERMINATE",
-    }
-}
-
-fn name_of_failover(supported: bool) -> &'static str
-    ensures { result.now ≡ name_of_failover supported }
-{
-    if supported {
-        "FAILOVER_SUPPORTED"
-    } else {
-        "FAILOVER_NOT_SUPPORTED"
-    }
-}
-
-fn name_of_category(immediate: bool) -> &'static str
-    ensures { result.now ≡ name_of_category immediate }
-{
-    if immediate {
-        "IMMEDIATE_REPORT"
-    } else {
-        "DEFERRED_REPORT"
-    }
-}
 
 fn rule_value(alloc: Global, rule: &TriggerRule) -> Result<Value, AllocError>
     ensures { IfOk result (λ v. view v ≡ rule_data rule.now) }
@@ -316,7 +237,7 @@ fn problem_value(alloc: Global, problem: &Problem) -> Result<Value, AllocError>
 
 fn write_answer(alloc: Global, answer: &Answer) -> Result<List<u8>, OutOfMemory>
     ensures text { IfOk result (λ b. b ≡ compact_text (answer_data answer.now)) }
-    ensures body { IfOk result (λ b. IsBody b (answer_data answer.now)) }
+    ensures body { IfOk result (λ b. object_in b ≡ Some (answer_data answer.now)) }
 {
     let value = answer_value(alloc, answer)?;
     write_body(alloc, &value)
@@ -324,10 +245,34 @@ fn write_answer(alloc: Global, answer: &Answer) -> Result<List<u8>, OutOfMemory>
 
 fn write_problem(alloc: Global, problem: &Problem) -> Result<List<u8>, OutOfMemory>
     ensures text { IfOk result (λ b. b ≡ compact_text (problem_data problem.now)) }
-    ensures body { IfOk result (λ b. IsBody b (problem_data problem.now)) }
+    ensures body { IfOk result (λ b. object_in b ≡ Some (problem_data problem.now)) }
 {
     let value = problem_value(alloc, problem)?;
     write_body(alloc, &value)
+}
+
+/// The status of a reply's response.
+pub fn reply_status(reply: &Reply) -> u16
+    ensures { result ≡ status_of reply.now }
+{
+    match reply {
+        Reply::Created { .. } => 201,
+        Reply::Updated { .. } => 200,
+        Reply::Released => 204,
+        Reply::Refused { problem } => problem.status,
+    }
+}
+
+/// The Location of a reply's response, which only a session that was made has (TS 32.291, 6.1.3.2).
+pub fn reply_location(alloc: Global, reply: &Reply) -> Result<Option<Text>, OutOfMemory>
+    ensures { IfOk result (λ o. o ≡ location_of reply.now) }
+{
+    match reply {
+        Reply::Created { reference, .. } => Ok(Some(session_location(alloc, *reference)?)),
+        Reply::Updated { .. } => Ok(None),
+        Reply::Released => Ok(None),
+        Reply::Refused { .. } => Ok(None),
+    }
 }
 
 /// The body of a reply: compact, the keys ascending, absent fields and empty lists left out; a session that was
@@ -336,7 +281,7 @@ fn write_problem(alloc: Global, problem: &Problem) -> Result<List<u8>, OutOfMemo
 /// A reply in the ranges of its format reads back, with its status and its Location, as the same reply.
 pub fn write_reply(alloc: Global, reply: &Reply) -> Result<List<u8>, OutOfMemory>
     ensures text { IfOk result (λ b. b ≡ reply_text reply.now) }
-    ensures reads_back { FitsReply reply.now → IfOk result (λ b. SpellsReply (status_of reply.now) (location_of reply.now) b reply.now) }
+    ensures reads_back { FitsReply reply.now → IfOk result (λ b. reply_in (status_of reply.now) (location_of reply.now) b ≡ Ok reply.now) }
 {
     times_read_back();
     match reply {

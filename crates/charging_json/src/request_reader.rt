@@ -1,15 +1,15 @@
 ghost use Rattle.std.specs.Prelude.{◌≡◌, codes, IfOk, Ok, Err, option_map};
 ghost use Rattle.std.specs.List.{list_all};
-ghost use Rattle.serde_json.specs.Data.{Data};
 ghost use Rattle.serde_json.specs.View.{view};
 ghost use Rattle.serde_json.specs.Find.{as_bool};
 ghost use Rattle.units.specs.Answers.{IsOrNoMemory};
 ghost use Rattle.units.specs.declared.refusal.JsonRefusal.TheVariants as refusal;
-ghost use Rattle.units.specs.declared.request.Request as spec;
 ghost use Rattle.charging_json.specs.Fields.{given, number_32, time, name, text_that, list_of, or_empty, required, allowed, required_if};
 ghost use Rattle.charging_json.specs.Triggers.{sound_kind};
 ghost use Rattle.charging_json.specs.Usage.{entry_of, short_list_of};
-ghost use Rattle.charging_json.specs.Request.{IsBody, consumer_of, consumer_place, charging_id_place, is_visible, is_address, is_create, request_of, SpellsRequest};
+ghost use Rattle.units.specs.Names.{is_visible, is_address};
+ghost use Rattle.units.specs.Ranges.{FitsRequest, is_create};
+ghost use Rattle.charging_json.specs.Request.{consumer_of, consumer_place, charging_id_place, request_of, request_in};
 
 use crate::body::read_object;
 use crate::fields::{
@@ -207,19 +207,14 @@ fn read_fields(alloc: Global, operation: Operation, value: &Value) -> Result<Req
 /// `NotJson` exactly where the body is no JSON object of nesting at most 127; else `Missing` or `Wrong` for the
 /// first field in the profile's order that is absent or wrong: `nfConsumerIdentification`, `invocationTimeStamp`,
 /// `invocationSequenceNumber`, `subscriberIdentifier` and `chargingId` (which only a Create has to have),
-/// `retransmissionIndicator`, `notifyUri`, `multipleUnitUsage`, `triggers`.
+/// `retransmissionIndicator`, `notifyUri`, `multipleUnitUsage`, `triggers`. What is read can be written, and reads back.
 pub fn read_request(
     alloc: Global,
     operation: Operation,
     body: &[u8],
 ) -> Result<Request, JsonRefusal>
-    ensures object { (value : Data) → IsBody body.now value
-        → IsOrNoMemory refusal.OutOfMemory result (request_of operation value) }
-    ensures other { ((value : Data) → ¬ (IsBody body.now value))
-        → IsOrNoMemory refusal.OutOfMemory result (Err refusal.NotJson) }
-    ensures sound { IfOk result (λ request. SpellsRequest operation body.now request) }
-    ensures complete { (request : spec.Request) → SpellsRequest operation body.now request
-        → IsOrNoMemory refusal.OutOfMemory result (Ok request) }
+    ensures answer { IsOrNoMemory refusal.OutOfMemory result (request_in operation body.now) }
+    ensures range { IfOk result (λ request. FitsRequest request) }
 {
     match read_object(alloc, body) {
         Ok(value) => read_fields(alloc, operation, &value),

@@ -1,10 +1,10 @@
-ghost use Rattle.std.specs.Prelude.{◌≡◌, ◌+◌, ◌^◌, min, IfOk, Ok, Some, option_map, map};
+ghost use Rattle.std.specs.Prelude.{◌≡◌, ◌≤◌, ◌+◌, ◌^◌, min, length, IfOk, Ok, Some, option_map, map};
 ghost use Rattle.serde_json.specs.View.{view, members_view};
 ghost use Rattle.serde_json.specs.Written.{compact_text};
-ghost use Rattle.charging_json.specs.Ranges.{FitsRequest};
-ghost use Rattle.charging_json.specs.Request.{SpellsRequest};
+ghost use Rattle.units.specs.Ranges.{FitsRequest};
+ghost use Rattle.charging_json.specs.Request.{request_in};
 ghost use Rattle.charging_json.specs.Written.{listed, with_fields};
-ghost use Rattle.charging_json.specs.RequestWritten.{trigger_data, total_of, span_data, used_data, ask_data, usage_data, consumer_data, again_data, invocation_fields, request_data};
+ghost use Rattle.charging_json.specs.RequestWritten.{trigger_data, total_of, span_data, used_data, ask_data, usage_data, consumer_data, again_data, invocation_fields, request_data, container_count};
 
 use crate::body::write_body;
 use crate::objects::{
@@ -13,13 +13,18 @@ use crate::objects::{
 use moments::times_read_back;
 use serde_json::{Map, Value};
 use std::alloc::{AllocError, Global};
-use units::{Ask, List, OutOfMemory, Request, Text, UnitUsage, Used};
+use units::{Ask, List, OutOfMemory, Request, Text, UnitUsage, Used, name_of_category};
 
 fn trigger_value(alloc: Global, kind: &Text) -> Result<Value, AllocError>
     ensures { IfOk result (λ v. view v ≡ trigger_data kind.now) }
 {
     let mut members = Map::new(alloc);
-    put_word(&mut members, alloc, "triggerCategory", "IMMEDIATE_REPORT")?;
+    put_word(
+        &mut members,
+        alloc,
+        "triggerCategory",
+        name_of_category(true),
+    )?;
     put_word(&mut members, alloc, "triggerType", kind.as_str())?;
     Ok(Value::Object(members))
 }
@@ -176,10 +181,12 @@ fn request_value(alloc: Global, request: &Request) -> Result<Value, AllocError>
 
 /// A charging data request as a body: compact, the keys ascending, absent fields and empty lists left out.
 ///
-/// A request in the ranges of its format reads back, under its operation, as the same request.
+/// It has a byte at least for each container. A request in the ranges of its format reads back, under its operation, as
+/// the same request.
 pub fn write_request(alloc: Global, request: &Request) -> Result<List<u8>, OutOfMemory>
     ensures text { IfOk result (λ b. b ≡ compact_text (request_data request.now)) }
-    ensures reads_back { FitsRequest request.now → IfOk result (λ b. SpellsRequest request.now.operation b request.now) }
+    ensures bytes { IfOk result (λ b. container_count request.now ≤ length b) }
+    ensures reads_back { FitsRequest request.now → IfOk result (λ b. request_in request.now.operation b ≡ Ok request.now) }
 {
     times_read_back();
     let value = request_value(alloc, request)?;

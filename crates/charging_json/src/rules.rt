@@ -1,41 +1,11 @@
 ghost use Rattle.std.specs.Prelude.{◌≡◌, IfOk, Some, option_map, vec_len};
 ghost use Rattle.serde_json.specs.View.{view};
-ghost use Rattle.charging_json.specs.Rules.{type_named, rule_of, rules_of};
+ghost use Rattle.charging_json.specs.Rules.{rule_of, rules_of};
 
 use crate::triggers::{kind, read_limits};
 use serde_json::Value;
 use std::alloc::{AllocError, Global};
-use units::{List, TriggerRule, TriggerType};
-
-// The trigger type of a name.
-fn type_named(name: &str) -> Option<TriggerType>
-    ensures { result ≡ type_named name.now }
-{
-    match name {
-        "FINAL" => Some(TriggerType::Final),
-        "QUOTA_EXHAUSTED" => Some(TriggerType::QuotaExhausted),
-        "QUOTA_THRESHOLD" => Some(TriggerType::QuotaThreshold),
-        "VALIDITY_TIME" => Some(TriggerType::ValidityTime),
-        "QHT" => Some(TriggerType::QuotaHoldingTime),
-        "TARIFF_TIME_CHANGE" => Some(TriggerType::TariffTimeChange),
-        "VOLUME_LIMIT" => Some(TriggerType::VolumeLimit),
-        "TIME_LIMIT" => Some(TriggerType::TimeLimit),
-        "FORCED_REAUTHORISATION" => Some(TriggerType::ForcedReauthorisation),
-        "QOS_CHANGE" => Some(TriggerType::QosChange),
-        "RAT_CHANGE" => Some(TriggerType::RatChange),
-        "PLMN_CHANGE" => Some(TriggerType::PlmnChange),
-        "USER_LOCATION_CHANGE" => Some(TriggerType::UserLocationChange),
-        "UE_TIMEZONE_CHANGE" => Some(TriggerType::UeTimezoneChange),
-        "SESSION_AMBR_CHANGE" => Some(TriggerType::SessionAmbrChange),
-        "SERVING_NODE_CHANGE" => Some(TriggerType::ServingNodeChange),
-        "MANAGEMENT_INTERVENTION" => Some(TriggerType::ManagementIntervention),
-        "MAX_NUMBER_OF_CHANGES_IN_CHARGING_CONDITIONS" => {
-            Some(TriggerType::MaxNumberOfChangesInChargingConditions)
-        }
-        "ABNORMAL_RELEASE" => Some(TriggerType::AbnormalRelease),
-        _ => None,
-    }
-}
+use units::{List, TriggerRule, type_named};
 
 // A trigger rule; `None` where it is wrong, `Some(None)` where its type is unknown.
 fn rule(value: &Value) -> Option<Option<TriggerRule>>

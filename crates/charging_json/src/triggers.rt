@@ -1,14 +1,14 @@
 ghost use Rattle.std.specs.Prelude.{◌≡◌, codes, IfOk, Some, option_map, option_and_then};
 ghost use Rattle.std.specs.List.{list_all};
 ghost use Rattle.serde_json.specs.View.{view};
-ghost use Rattle.rows.specs.Name.{is_name_byte};
+ghost use Rattle.units.specs.Names.{is_name_byte, is_kind};
 ghost use Rattle.charging_json.specs.Fields.{given, optional, list_of};
-ghost use Rattle.charging_json.specs.Triggers.{is_kind, is_immediate, category, kind_of, limits_of, sound_kind};
+ghost use Rattle.charging_json.specs.Triggers.{category, kind_of, limits_of, sound_kind};
 
 use crate::fields::{given, optional_number, optional_number_32, owned};
 use serde_json::Value;
 use std::alloc::{AllocError, Global};
-use units::{List, Text};
+use units::{List, Text, is_immediate};
 
 /// What a trigger says beside its type: whether it is immediate, and its limits.
 #[derive(Clone, Copy, Debug, PartialEq, Eq)]
@@ -30,19 +30,6 @@ fn is_kind(text: &[u8]) -> bool
     ensures { result ≡ is_kind text.now }
 {
     1 <= text.len() && text.len() <= 64 && are_kind_bytes(text)
-}
-
-// Whether a category is immediate.
-fn is_immediate(text: &str) -> Option<bool>
-    ensures { result ≡ is_immediate text.now }
-{
-    if text == "IMMEDIATE_REPORT" {
-        Some(true)
-    } else if text == "DEFERRED_REPORT" {
-        Some(false)
-    } else {
-        None
-    }
 }
 
 // The category, where there is one; `None` where it is wrong.

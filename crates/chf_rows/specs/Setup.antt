@@ -1,7 +1,8 @@
 -- The setup rows of a charging function: the rows of a tariff, then `limits,VOLUME,SECONDS,CHANGES,CONTAINERS,GRACE,NAME,FAILOVER` (this product's own).
 use Rattle.std.specs.Prelude.{ℕ, ◌+◌, ◌-◌, ◌^◌, ◌||◌, min, nat_le, bytes_eq, Bool, true, false, List, [], ◌∷◌, take, drop, Option, Some, None, Result, Ok, Err, if◌then◌else◌, option_and_then, codes}
 use Rattle.rows.specs.Number.{number_of}
-use Rattle.rows.specs.Name.{spells_name}
+use Rattle.units.specs.Names.{spells_name}
+use Rattle.units.specs.Words.{failover_named}
 use Rattle.rating.specs.Grammar.{first_bad}
 use Rattle.chf_core.specs.declared.setup.ChfSetup.{ChfSetup}
 use Rattle.chf_rows.specs.declared.limits.Limits.{Limits}
@@ -14,12 +15,6 @@ abbrev pub is_setup_row : List (List ℕ) → Bool
 is_setup_row [] = false
 is_setup_row (word ∷ fields) = bytes_eq word (codes "group") || (bytes_eq word (codes "price") || (bytes_eq word (codes "counter") || bytes_eq word (codes "limits")))
 
--- whether session failover is supported, by its word (TS 32.291, 6.1.6.3)
-abbrev pub failover_of : List ℕ → Option Bool
-failover_of word =
-    if bytes_eq word (codes "FAILOVER_SUPPORTED") then Some true else
-    (if bytes_eq word (codes "FAILOVER_NOT_SUPPORTED") then Some false else None)
-
 -- a name
 abbrev pub name_of : List ℕ → Option (List ℕ)
 name_of field = if spells_name field then Some field else None
@@ -29,7 +24,7 @@ name_of field = if spells_name field then Some field else None
 abbrev pub limits_of : List (List ℕ) → Option Limits
 limits_of (volume ∷ seconds ∷ changes ∷ containers ∷ grace ∷ name ∷ failover ∷ []) =
     option_and_then (λ v. option_and_then (λ s. option_and_then (λ c. option_and_then (λ n. option_and_then (λ g. option_and_then (λ r. option_and_then (λ f.
-    Some (record { grace = g; failover = f })) (failover_of failover)) (name_of name)) (number_of 604800 grace)) (number_of (2 ^ 32 - 1) containers))
+    Some (record { grace = g; failover = f })) (failover_named failover)) (name_of name)) (number_of 604800 grace)) (number_of (2 ^ 32 - 1) containers))
     (number_of (2 ^ 32 - 1) changes)) (number_of (2 ^ 32 - 1) seconds)) (number_of (2 ^ 64 - 1) volume)
 limits_of _ = None
 

@@ -1,21 +1,15 @@
 ghost use Rattle.std.specs.Prelude.{◌≡◌, IfOk, option_map};
-ghost use Rattle.chf_rows.specs.Setup.{failover_of, name_of};
+ghost use Rattle.units.specs.Words.{failover_named};
+ghost use Rattle.chf_rows.specs.Setup.{name_of};
 
 use rows::is_name;
-use units::Text;
+use units::{Text, failover_named};
 
 /// Whether session failover is supported, by its word.
 pub fn failover(field: &Text) -> Option<bool>
-    ensures { result ≡ failover_of field.now }
+    ensures { result ≡ failover_named field.now }
 {
-    let word = field.as_str();
-    if word == "FAILOVER_SUPPORTED" {
-        Some(true)
-    } else if word == "FAILOVER_NOT_SUPPORTED" {
-        Some(false)
-    } else {
-        None
-    }
+    failover_named(field.as_str())
 }
 
 /// The name that a field is.

@@ -1,6 +1,7 @@
 -- What a meter answers to a report (this product's own).
 use Rattle.std.specs.Prelude.{◌≡◌, ℕ, ◌+◌, ◌^◌, ◌<◌, ◌==◌, ◌&&◌, ◌||◌, ◌⊎◌, not, nat_lt, nat_le, Bool, true, if◌then◌else◌, List, [], ◌∷◌, ◌++◌, length, map, fold, max, sum_by, Result, Ok, Err}
 use Rattle.std.specs.List.{list_any}
+use Rattle.units.specs.Limits.{most_groups, most_reports}
 use Rattle.units.specs.declared.report.Report.{Report}
 use Rattle.units.specs.declared.report.Container.{Container}
 use Rattle.meter.specs.declared.refusal.Seen.{Seen}
@@ -34,9 +35,9 @@ with_group groups group = if is_in group groups then groups else groups ++ group
 abbrev pub groups_of : Contents → List ℕ
 groups_of contents = fold with_group [] (map (λ c. c.group) contents.containers ++ map (λ h. h.group) contents.horizons)
 
--- the group had a report or a horizon, or fewer than 16 groups had one
+-- the group had a report or a horizon, or fewer groups than a session may have had one
 abbrev pub HasPlaceFor : Contents → ℕ → Type 0
-HasPlaceFor contents group = (is_in group (groups_of contents) ≡ true) ⊎ (length (groups_of contents) < 16)
+HasPlaceFor contents group = (is_in group (groups_of contents) ≡ true) ⊎ (length (groups_of contents) < most_groups)
 
 -- more than 2^40 octets up or down, or more than 86400 seconds
 abbrev pub is_too_large : Report → Bool
@@ -49,6 +50,6 @@ answer_of s r =
     (if not (r.number == expected_of s r.group) then Err (OutOfStep (expected_of s r.group)) else
     (if is_too_large r then Err TooLarge else
     (if nat_lt r.moment (latest s.containers) then Err (MomentBack (latest s.containers)) else
-    (if nat_le (2 ^ 20) (report_total s.containers) then Err TooManyReports else
-    (if not (is_in r.group (groups_of s)) && nat_le 16 (length (groups_of s)) then Err TooManyGroups else
+    (if nat_le most_reports (report_total s.containers) then Err TooManyReports else
+    (if not (is_in r.group (groups_of s)) && nat_le most_groups (length (groups_of s)) then Err TooManyGroups else
     Ok New)))))

@@ -1,6 +1,7 @@
 -- What a meter keeps beside what came of the session.
 use Rattle.std.specs.Prelude.{◌≡◌, ℕ, ◌+◌, ◌-◌, ◌^◌, ◌<◌, ◌≤◌, ◌==◌, List, [], ◌∷◌, length, map, fold, All, false, min, nat_lt, if◌then◌else◌, vec_capacity, vec_len, Some}
 use Rattle.std.specs.List.{AllByRecursion}
+use Rattle.units.specs.Limits.{most_groups, most_reports}
 use Rattle.units.specs.declared.report.Container.{Container}
 use Rattle.units.specs.declared.report.Report.{Report}
 use Rattle.meter.specs.declared.counts.GroupCount.{GroupCount}
@@ -26,7 +27,7 @@ pub record Admitted (containers : List Container) (r : Report) : Type 0 where
   pub down : r.down ≤ 2 ^ 40
   pub seconds : r.seconds ≤ 86400
   pub later : latest containers ≤ r.moment
-  pub few : report_total containers < 2 ^ 20
+  pub few : report_total containers < most_reports
 
 -- no group stands twice
 abbrev pub AreDistinct : List ℕ → Type 0
@@ -39,7 +40,7 @@ pub record AreKept (containers : List Container) (counts : List GroupCount) (mom
   pub numbered : AreNumbered 1 containers
   pub last : moment ≡ latest containers
   pub total : reports ≡ report_total containers
-  pub few : reports ≤ 2 ^ 20
+  pub few : reports ≤ most_reports
   pub groups : map (λ g. g.group) counts ≡ fold with_group [] (map (λ c. c.group) containers)
   pub each : AllByRecursion (IsCountOf containers) counts
 
@@ -50,7 +51,7 @@ contents_of m = record { containers = m.containers.items; closes = m.closes.item
 abbrev pub seen : Inside → Metered
 seen m = record {
   contents = contents_of m;
-  room = if nat_lt (vec_capacity m.horizons) 16 then 0 else
+  room = if nat_lt (vec_capacity m.horizons) most_groups then 0 else
       min (min (vec_capacity m.containers - vec_len m.containers) (vec_capacity m.closes - vec_len m.closes)) (vec_capacity m.counts - vec_len m.counts);
 }
 
@@ -59,4 +60,4 @@ pub record IsSound (m : Inside) : Type 0 where
   pub closes : length m.closes.items ≡ length m.containers.items
   pub closed : AreClosedButOpen (contents_of m)
   pub horizons : AreDistinct (map (λ h. h.group) m.horizons.items)
-  pub groups : length (groups_of (contents_of m)) ≤ 16
+  pub groups : length (groups_of (contents_of m)) ≤ most_groups

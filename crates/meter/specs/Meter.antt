@@ -1,6 +1,7 @@
 -- What callers of a meter cite: what came of the session, the answer to a report, and what comes of a report, a close and a horizon.
 use Rattle.std.specs.Prelude.{◌≡◌, ℕ, ◌==◌, if◌then◌else◌, List, [], ◌∷◌, Option, Some, None}
 use Rattle.std.specs.List.{find}
+use Rattle.units.specs.Limits.{greatest_moment}
 use Rattle.units.specs.Cut.{NoSwitchWithin}
 use Rattle.units.specs.declared.report.Container.{Container}
 use Rattle.units.specs.declared.trigger.TriggerType.{TriggerType}
@@ -39,10 +40,6 @@ closed_as (Some c) (Some k) = Some (record { container = c; trigger = k.trigger;
 -- the container with this number as it was closed, if it was
 abbrev pub closed_of : Contents → ℕ → Option Closed
 closed_of s lsn = closed_as (find (λ c. c.lsn == lsn) s.containers) (close_of s lsn)
-
--- the seconds of the last moment (this product's own range)
-abbrev pub greatest_moment : ℕ
-greatest_moment = 3155759999
 
 -- the least unsafe hour after the container's last moment, None exactly where there is no container or no such hour is a moment
 abbrev pub IsFirstUnsafeAfter : Option Horizon → Option Container → Option ℕ → Type 0

@@ -1,6 +1,7 @@
 //! How far a rating group's tariff is known, and the hours at which it may switch.
 ghost use Rattle.std.specs.Prelude.{◌≡◌, ◌==◌, ◌≤◌, ◌<◌, false, length, map, position, IfSome, vec_len, vec_capacity};
 ghost use Rattle.std.specs.List.{find};
+ghost use Rattle.units.specs.Limits.{greatest_moment};
 ghost use Rattle.meter.specs.Horizons.{is_within, next_hour, hour_from, least_unsafe, has_unsafe};
 ghost use Rattle.meter.specs.Meter.{is_in, with_horizon};
 
@@ -36,7 +37,7 @@ pub fn horizon_of(horizons: &[Horizon], group: u32) -> Option<Horizon>
 
 // The least whole hour after the moment.
 fn hour_after(seconds: u64) -> u64
-    requires { seconds ≤ 3155759999 }
+    requires { seconds ≤ greatest_moment }
     ensures { result ≡ next_hour seconds }
 {
     3600 * (seconds / 3600 + 1)
@@ -44,7 +45,7 @@ fn hour_after(seconds: u64) -> u64
 
 // The least whole hour at the moment or after it.
 fn hour_at(seconds: u64) -> u64
-    requires { seconds ≤ 3155759999 }
+    requires { seconds ≤ greatest_moment }
     ensures { result ≡ hour_from seconds }
 {
     3600 * ((seconds + 3599) / 3600)

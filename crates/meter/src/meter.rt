@@ -1,6 +1,7 @@
 //! The reports of one session, taken one by one.
 ghost use Rattle.std.specs.Prelude.{◌≡◌, ◌≢◌, ◌<◌, ◌≤◌, ◌+◌, ◌^◌, ◌==◌, ◌++◌, ◌∷◌, [], ℕ, Bool, List, All, length, OnOk, IsOk, Ok, Some, None, false, is_some};
 ghost use Rattle.units.specs.Cut.{AreCuts, AreWidestCuts, IsCut, reports_of, containers_of, no_switch, whole_hour};
+ghost use Rattle.units.specs.Limits.{most_reports};
 ghost use Rattle.units.specs.declared.report.Report.{Report};
 ghost use Rattle.meter.specs.Horizons.{AreForeseen};
 ghost use Rattle.meter.specs.Meter.{nothing_yet, answer_of, expected_of, report_total, open_of, last_of, horizon_of, closed_of, with_joined, with_opened, with_closed, after_report, after_close, after_horizon, groups_of, is_in, HasPlaceFor, IsSmall, AreNumbered, IsFirstUnsafe, IsTaken, IsUndisturbed, AreClosedButOpen, IsOpenUntil};
@@ -13,7 +14,9 @@ use crate::refusal::{MeterRefusal, Seen};
 use crate::take::{grow, open_next};
 use std::alloc::Global;
 use std::marker::Model;
-use units::{Closed, Container, Moment, OutOfMemory, Report, TriggerType};
+use units::{
+    Closed, Container, MOST_GROUPS, MOST_REPORTS, Moment, OutOfMemory, Report, TriggerType,
+};
 
 /// The containers of one session, cut where its groups' tariffs may switch (TS 32.255, 5.2.1).
 #[derive(Drop)]
@@ -63,8 +66,8 @@ impl Meter {
         self.containers.reserve(1)?;
         self.closes.reserve(1)?;
         self.counts.reserve(1)?;
-        if self.horizons.capacity() < 16 {
-            self.horizons.reserve(16)?;
+        if self.horizons.capacity() < MOST_GROUPS {
+            self.horizons.reserve(MOST_GROUPS)?;
         }
         Ok(())
     }
@@ -73,8 +76,8 @@ impl Meter {
     /// at most 2^20, as many as there are reports at most. Each is closed but the open one of its group.
     pub fn containers(&self) -> &[Container]
         ensures value { result.now ≡ self.now.contents.containers }
-        ensures few { length result.now ≤ 2 ^ 20 }
-        ensures total { report_total result.now ≤ 2 ^ 20 }
+        ensures few { length result.now ≤ most_reports }
+        ensures total { report_total result.now ≤ most_reports }
         ensures numbered { AreNumbered 1 result.now }
         ensures small { All IsSmall result.now }
         ensures closed { AreClosedButOpen self.now.contents }
@@ -135,10 +138,10 @@ impl Meter {
         if report.moment < self.last {
             return Err(MeterRefusal::MomentBack { last: self.last });
         }
-        if self.total >= 1 << 20 {
+        if self.total >= MOST_REPORTS {
             return Err(MeterRefusal::TooManyReports);
         }
-        if !self.has_group(report.group) && self.group_count() >= 16 {
+        if !self.has_group(report.group) && self.group_count() >= MOST_GROUPS {
             return Err(MeterRefusal::TooManyGroups);
         }
         Ok(Seen::New)
@@ -234,7 +237,7 @@ impl Meter {
         ensures answer { result ≡ answer_of self.old.contents report }
         ensures new { result ≡ Ok Seen.New → self.new.contents ≡ after_report self.old.contents report }
         ensures same { result ≢ Ok Seen.New → self.new ≡ self.old }
-        ensures few { result ≡ Ok Seen.New → report_total self.old.contents.containers < 2 ^ 20 }
+        ensures few { result ≡ Ok Seen.New → report_total self.old.contents.containers < most_reports }
         ensures counted { result ≡ Ok Seen.New → report_total self.new.contents.containers ≡ report_total self.old.contents.containers + 1 }
         ensures horizons { self.new.contents.horizons ≡ self.old.contents.horizons }
         ensures room { self.new.room ≤ self.old.room }

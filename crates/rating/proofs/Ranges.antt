@@ -10,7 +10,8 @@ use Rattle.rating.specs.declared.terms.Terms.{Terms}
 use Rattle.rating.specs.declared.period.Period.{Period}
 use Rattle.rating.specs.declared.row.TariffRow.{TariffRow}
 use Rattle.rating.specs.declared.row.TariffRow.TheVariants.{Group, Price}
-use Rattle.rating.specs.Row.{IsInRange, IsSmall, kind_of, chunk_of, action_of, group_row, price_row, tariff_row}
+use Rattle.units.specs.Words.{action_named}
+use Rattle.rating.specs.Row.{IsInRange, IsSmall, kind_of, chunk_of, group_row, price_row, tariff_row}
 use Rattle.rating.specs.Tariff.{tariff_rows, terms_of, periods, periods_by, periods_of, period_in}
 use Rattle.rating.proofs.Steady.{AreOfDay}
 
@@ -44,7 +45,7 @@ group_small group (a ∷ b ∷ c ∷ []) = tt
 group_small group (a ∷ b ∷ c ∷ d ∷ []) = tt
 group_small group (a ∷ b ∷ c ∷ d ∷ e ∷ []) = tt
 group_small group (kind ∷ chunk ∷ threshold ∷ validity ∷ holding ∷ action ∷ []) =
-    and_then (number_of (2 ^ 32 - 1) group) _ IsInRange (λ g eg. and_then (kind_of kind) _ IsInRange (λ k ek. and_then (chunk_of k chunk) _ IsInRange (λ c ec. and_then (number_of (2 ^ 32 - 1) threshold) _ IsInRange (λ t et. and_then (number_of 604800 validity) _ IsInRange (λ v ev. and_then (number_of 604800 holding) _ IsInRange (λ h eh. and_then (action_of action) _ IsInRange (λ a ea. tt)))))))
+    and_then (number_of (2 ^ 32 - 1) group) _ IsInRange (λ g eg. and_then (kind_of kind) _ IsInRange (λ k ek. and_then (chunk_of k chunk) _ IsInRange (λ c ec. and_then (number_of (2 ^ 32 - 1) threshold) _ IsInRange (λ t et. and_then (number_of 604800 validity) _ IsInRange (λ v ev. and_then (number_of 604800 holding) _ IsInRange (λ h eh. and_then (action_named action) _ IsInRange (λ a ea. tt)))))))
 group_small group (a ∷ b ∷ c ∷ d ∷ e ∷ f ∷ g ∷ rest) = tt
 
 pub row_small : (fields : List (List ℕ)) → IfSome (tariff_row fields) IsInRange

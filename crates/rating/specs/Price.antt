@@ -1,6 +1,7 @@
 -- What usage of a rating group costs at a moment (TS 32.290, rating; linear in octets and seconds by this product's own profile).
 use Rattle.std.specs.Prelude.{ℕ, ◌+◌, ◌*◌, ◌/◌, ◌%◌, min, nat_le, List, [], ◌∷◌, Option, Some, None, filter}
 use Rattle.std.specs.Option.{option_or}
+use Rattle.units.specs.Limits.{greatest_moment}
 use Rattle.units.specs.declared.report.Report.{Report}
 use Rattle.units.specs.declared.report.Container.{Container}
 use Rattle.rating.specs.declared.period.Period.{Period}
@@ -8,7 +9,7 @@ use Rattle.rating.specs.Tariff.{periods}
 
 -- a moment, which ends at the last one, 2069-12-31T23:59:59Z
 abbrev pub in_time : ℕ → ℕ
-in_time moment = min moment 3155759999
+in_time moment = min moment greatest_moment
 
 -- the hour of the UTC day
 abbrev pub hour_of : ℕ → ℕ

@@ -2,8 +2,7 @@
 use Rattle.std.specs.Prelude.{ℕ, ◌-◌, ◌^◌, ◌≤◌, List, [], ◌∷◌, Option, Some, None, if◌then◌else◌, option_and_then, codes, nat_eq}
 use Rattle.std.specs.Cmp.Lexicographic.{pointwise}
 use Rattle.rows.specs.Number.{number_of}
-use Rattle.units.specs.declared.answer.Action.{Action}
-use Rattle.units.specs.declared.answer.Action.TheVariants.{Terminate, Redirect, RestrictAccess}
+use Rattle.units.specs.Words.{action_named}
 use Rattle.rating.specs.declared.terms.Kind.{Kind}
 use Rattle.rating.specs.declared.terms.Kind.TheVariants.{Volume, Time, Offline}
 use Rattle.rating.specs.declared.period.Period.{Period}
@@ -16,13 +15,6 @@ kind_of field =
     if pointwise nat_eq field (codes "volume") then Some Volume else
     (if pointwise nat_eq field (codes "time") then Some Time else
     (if pointwise nat_eq field (codes "offline") then Some Offline else None))
-
--- what follows once the final units are used up, by its word (TS 32.291, 6.1.6.3.4)
-abbrev pub action_of : List ℕ → Option Action
-action_of field =
-    if pointwise nat_eq field (codes "TERMINATE") then Some Terminate else
-    (if pointwise nat_eq field (codes "REDIRECT") then Some Redirect else
-    (if pointwise nat_eq field (codes "RESTRICT_ACCESS") then Some RestrictAccess else None))
 
 -- the most units that a chunk may have
 abbrev pub most_chunk : Kind → ℕ
@@ -39,7 +31,7 @@ abbrev pub group_row : List ℕ → List (List ℕ) → Option TariffRow
 group_row group (kind ∷ chunk ∷ threshold ∷ validity ∷ holding ∷ action ∷ []) =
     option_and_then (λ g. option_and_then (λ k. option_and_then (λ c. option_and_then (λ t. option_and_then (λ v. option_and_then (λ h. option_and_then (λ a.
     Some (Group g (record { kind = k; chunk = c; threshold = t; validity = v; holding = h; action = a })))
-    (action_of action)) (number_of 604800 holding)) (number_of 604800 validity)) (number_of (2 ^ 32 - 1) threshold)) (chunk_of k chunk)) (kind_of kind)) (number_of (2 ^ 32 - 1) group)
+    (action_named action)) (number_of 604800 holding)) (number_of 604800 validity)) (number_of (2 ^ 32 - 1) threshold)) (chunk_of k chunk)) (kind_of kind)) (number_of (2 ^ 32 - 1) group)
 group_row group _ = None
 
 -- the fields of a price row after its group: an hour of the UTC day, and prices of at most 2 ^ 32

@@ -1,13 +1,14 @@
 -- When the prices of a rating group change (tariff time change: TS 32.291, 6.1.6.2.1.9; whole UTC hours in a daily pattern are this product's own).
 use Rattle.std.specs.Prelude.{◌≡◌, ℕ, ◌+◌, ◌*◌, ◌/◌, ◌%◌, ◌<◌, ◌==◌, ◌&&◌, min, nat_le, nat_lt, Bool, true, false, List, [], ◌∷◌, length, Option, Some, None, if◌then◌else◌}
 use Rattle.std.specs.List.{list_any}
+use Rattle.units.specs.Limits.{greatest_moment}
 use Rattle.rating.specs.declared.period.Period.{Period}
 use Rattle.rating.specs.Tariff.{periods}
 use Rattle.rating.specs.Price.{hour_of}
 
 -- a switch of periods, where they are at least two: a moment in range, at a whole hour, whose hour of the day is listed
 abbrev pub switches : List Period → ℕ → Bool
-switches periods moment = nat_le 2 (length periods) && (nat_le moment 3155759999 && ((moment % 3600 == 0) && list_any (λ p. p.hour == hour_of moment) periods))
+switches periods moment = nat_le 2 (length periods) && (nat_le moment greatest_moment && ((moment % 3600 == 0) && list_any (λ p. p.hour == hour_of moment) periods))
 
 -- a switch of a group
 abbrev pub is_switch : List (List (List ℕ)) → ℕ → ℕ → Bool
@@ -32,7 +33,7 @@ soonest after (p ∷ ps) = Some (sooner (next_at after p.hour) (soonest after ps
 -- a moment within the range of moments
 abbrev pub in_range : Option ℕ → Option ℕ
 in_range None = None
-in_range (Some moment) = if nat_le moment 3155759999 then Some moment else None
+in_range (Some moment) = if nat_le moment greatest_moment then Some moment else None
 
 -- the first listed hour strictly after a moment, where there are at least two periods and it is in range
 abbrev pub switch_after : List Period → ℕ → Option ℕ

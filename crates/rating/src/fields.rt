@@ -1,11 +1,12 @@
 //! The fields of rows: a number in a range, and words.
 ghost use Rattle.std.specs.Prelude.{◌≡◌, ◌≤◌, IfSome};
 ghost use Rattle.rows.specs.Number.{number_of};
-ghost use Rattle.rating.specs.Row.{action_of, chunk_of, kind_of};
+ghost use Rattle.units.specs.Words.{action_named};
+ghost use Rattle.rating.specs.Row.{chunk_of, kind_of};
 
 use crate::terms::Kind;
 use rows::number;
-use units::{Action, Text};
+use units::{Action, Text, action_named};
 
 /// The number in a field, where it is a numeral of at most `most`.
 pub fn small_number(most: u32, field: &Text) -> Option<u32>
@@ -41,18 +42,9 @@ pub fn kind(field: &Text) -> Option<Kind>
 
 /// The action that a field names.
 pub fn action(field: &Text) -> Option<Action>
-    ensures { result ≡ action_of field.now }
+    ensures { result ≡ action_named field.now }
 {
-    let word = field.as_str();
-    if word == "TERMINATE" {
-        Some(Action::Terminate)
-    } else if word == "REDIRECT" {
-        Some(Action::Redirect)
-    } else if word == "RESTRICT_ACCESS" {
-        Some(Action::RestrictAccess)
-    } else {
-        None
-    }
+    action_named(field.as_str())
 }
 
 /// The chunk in a field: at least 1, and at most what the kind allows.

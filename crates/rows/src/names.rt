@@ -1,7 +1,7 @@
 //! Names: printable bytes without comma and double quote.
 ghost use Rattle.std.specs.Prelude.{◌≡◌};
 ghost use Rattle.std.specs.List.{list_all};
-ghost use Rattle.rows.specs.Name.{is_name_byte, spells_name};
+ghost use Rattle.units.specs.Names.{is_name_byte, spells_name};
 
 fn are_name_bytes(text: &[u8]) -> bool
     ensures { result ≡ list_all is_name_byte text.now }

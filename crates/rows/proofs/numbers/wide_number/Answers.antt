@@ -1,4 +1,4 @@
-use Rattle.std.proofs.Common.{◌≡◌, ◌∙◌, ap, sym, rules, arith, ◌+◌, ◌*◌, ◌-◌, ◌<◌, ◌^◌, get_or}
+use Rattle.std.proofs.Common.{◌∙◌, sym, arith, ◌^◌}
 use Rattle.rows.proofs.Value.{too_large, value_more}
 use Rattle.rows.proofs.numbers.wide_number.Goals as goal
 

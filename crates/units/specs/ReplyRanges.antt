@@ -1,4 +1,4 @@
--- Replies within the ranges of their format: those that are written so that they read back.
+-- Replies within the ranges of their format: those that are written so that they read back (TS 32.291, 6.1.6.2.1.6 to 6.1.6.2.1.10; the bounds are this product's own).
 use Rattle.std.specs.Prelude.{◌≡◌, ◌≤◌, ◌==◌, false, ⊤}
 use Rattle.std.specs.List.{AllByRecursion}
 use Rattle.units.specs.declared.answer.Answer.{Answer}
@@ -9,17 +9,20 @@ use Rattle.units.specs.declared.trigger.TriggerRule.{TriggerRule}
 use Rattle.units.specs.declared.reply.Problem.{Problem}
 use Rattle.units.specs.declared.reply.Reply.{Reply}
 use Rattle.units.specs.declared.reply.Reply.TheVariants.{Created, Updated, Released, Refused}
-use Rattle.charging_json.specs.Ranges.{Is32, IsMoment, IsVolume, IfGiven}
+use Rattle.units.specs.Ranges.{Is32, IsMoment, IsVolume, IfGiven}
 
+-- a trigger rule in range
 pub record FitsRule (rule : TriggerRule) : Type 0 where
   pub octets : IfGiven IsVolume rule.volume
   pub time : IfGiven Is32 rule.seconds
   pub count : IfGiven Is32 rule.changes
 
+-- a granted amount in range
 abbrev pub FitsAmount : Amount → Type 0
 FitsAmount (Volume octets) = IsVolume octets
 FitsAmount (Seconds seconds) = Is32 seconds
 
+-- what is said of a rating group, in range
 pub record FitsInfo (info : UnitInfo) : Type 0 where
   pub number : Is32 info.group
   pub granted : IfGiven FitsAmount info.grant
@@ -30,6 +33,7 @@ pub record FitsInfo (info : UnitInfo) : Type 0 where
   pub time : IfGiven Is32 info.time_threshold
   pub rules : AllByRecursion FitsRule info.triggers
 
+-- an answer in range
 pub record FitsAnswer (answer : Answer) : Type 0 where
   pub stamped : IsMoment answer.stamp
   pub numbered : Is32 answer.number

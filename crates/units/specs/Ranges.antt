@@ -1,22 +1,23 @@
--- Requests within the ranges of their format: those that are written so that they read back.
-use Rattle.std.specs.Prelude.{◌≡◌, ◌≤◌, ℕ, ◌^◌, ◌&&◌, ◌||◌, not, Bool, true, List, length, Option, Some, None, ⊤}
+-- Charging data requests within the ranges of their format: those that are written so that they read back (TS 29.571, 5.2; TS 32.291, 6.1.6.2.1; the bounds are this product's own).
+use Rattle.std.specs.Prelude.{◌≡◌, ◌≤◌, ℕ, ◌^◌, ◌&&◌, ◌||◌, not, Bool, true, false, List, length, Option, Some, None, ⊤}
 use Rattle.std.specs.Option.{is_some}
 use Rattle.std.specs.List.{AllByRecursion}
-use Rattle.rows.specs.Name.{spells_name}
 use Rattle.units.specs.declared.request.Ask.{Ask}
+use Rattle.units.specs.declared.request.Operation.{Operation}
+use Rattle.units.specs.declared.request.Operation.TheVariants.{Create, Update, Release}
 use Rattle.units.specs.declared.request.Used.{Used}
 use Rattle.units.specs.declared.request.UnitUsage.{UnitUsage}
 use Rattle.units.specs.declared.request.Request.{Request}
-use Rattle.charging_json.specs.Triggers.{is_kind}
-use Rattle.charging_json.specs.Request.{is_address, is_create}
+use Rattle.units.specs.Limits.{greatest_moment, most_entries}
+use Rattle.units.specs.Names.{spells_name, is_kind, is_address}
 
--- a number of 32 bits
+-- a number of 32 bits (TS 29.571, Uint32)
 abbrev pub Is32 : ℕ → Type 0
 Is32 n = n ≤ 4294967295
 
 -- a moment
 abbrev pub IsMoment : ℕ → Type 0
-IsMoment moment = moment ≤ 3155759999
+IsMoment moment = moment ≤ greatest_moment
 
 -- a volume, in octets
 abbrev pub IsVolume : ℕ → Type 0
@@ -51,15 +52,23 @@ pub record FitsContainer (group : ℕ) (used : Used) : Type 0 where
   pub closed : IsMoment used.moment
   pub kinds : AllByRecursion IsKind used.triggers
 
+-- a requested unit in range
 pub record FitsAsk (ask : Ask) : Type 0 where
   pub octets : IfGiven IsVolume ask.volume
   pub time : IfGiven Is32 ask.seconds
 
+-- an entry in range
 pub record FitsUsage (usage : UnitUsage) : Type 0 where
   pub number : Is32 usage.group
   pub asked : IfGiven FitsAsk usage.ask
-  pub few : length usage.used ≤ 1000
+  pub few : length usage.used ≤ most_entries
   pub containers : AllByRecursion (FitsContainer usage.group) usage.used
+
+-- Create is where subscriber and charging id have to be there
+abbrev pub is_create : Operation → Bool
+is_create Create = true
+is_create (Update reference) = false
+is_create (Release reference) = false
 
 -- a Create has a subscriber and a charging id
 abbrev pub has_what_create_needs : Request → Bool
@@ -74,6 +83,6 @@ pub record FitsRequest (request : Request) : Type 0 where
   pub charged : IfGiven Is32 request.charging_id
   pub complete : has_what_create_needs request ≡ true
   pub notified : IfGiven IsAddress request.notify
-  pub few : length request.usage ≤ 1000
+  pub few : length request.usage ≤ most_entries
   pub entries : AllByRecursion FitsUsage request.usage
   pub kinds : AllByRecursion IsKind request.triggers
