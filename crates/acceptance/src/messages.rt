@@ -36,9 +36,12 @@ pub fn request(alloc: Global, operation: &str, body: &str) -> Result<String, Out
         alloc,
         std::str::from_utf8(written.as_slice()).unwrap_or("?"),
     )?;
-    match read_request(alloc, operation, written.as_slice()) {
-        Ok(again) if again == request => {}
-        _ => text.push_str(" is read as another")?,
+    let is_same = match read_request(alloc, operation, written.as_slice()) {
+        Ok(again) => again == request,
+        Err(_) => false,
+    };
+    if !is_same {
+        text.push_str(" is read as another")?;
     }
     Ok(text)
 }
@@ -82,9 +85,12 @@ pub fn reply(
     let mut text = location_of(alloc, &reply)?;
     let written = write_reply(alloc, &reply)?;
     text.push_str(std::str::from_utf8(written.as_slice()).unwrap_or("?"))?;
-    match read_reply(alloc, status, location, written.as_slice()) {
-        Ok(again) if again == reply => {}
-        _ => text.push_str(" is read as another")?,
+    let is_same = match read_reply(alloc, status, location, written.as_slice()) {
+        Ok(again) => again == reply,
+        Err(_) => false,
+    };
+    if !is_same {
+        text.push_str(" is read as another")?;
     }
     Ok(text)
 }
