@@ -9,16 +9,16 @@ use Rattle.std.specs.Map.{keys_of}
 use Rattle.std.specs.FinMap as map
 use Rattle.accounts.specs.declared.reservation.Key.{Key}
 use Rattle.accounts.specs.declared.reservation.Reservation.{Reservation}
-use Rattle.accounts.specs.Endings.{Ending}
+use Rattle.accounts.specs.Endings.{Ending, without_at}
 use Rattle.accounts.specs.Endings.{Session, Until}
-use Rattle.accounts.specs.Reservations.{key_eq, key_cmp, keys_total, ReservationMap, at}
+use Rattle.accounts.specs.Reservations.{key_eq, key_cmp, keys_total, ReservationMap, at, keys_exact, keys_tied}
 use Rattle.accounts.specs.Endings.{ends, without}
 use Rattle.accounts.specs.Ledger.{Numbers, State, numbers, share, from_own, from_free, uncovered}
 use Rattle.accounts.specs.Moves.{Move, Added, ToppedUp, Charged, Reserved, Released, ReleasedAll, Expired, topped_up, debited, after, state_of, IsAllowed, AreAllowed}
 use Rattle.accounts.specs.Caches.{IsSound}
 use Rattle.accounts.specs.Balanced.{IsBalanced, BooksBalance, TopupsAreSummed, topup_of}
 use Rattle.accounts.specs.Steps.{BalanceStays}
-use Rattle.accounts.proofs.Tables.{exact_keys, same_key, tied_keys, stays}
+use Rattle.accounts.proofs.Tables.{same_key}
 use Rattle.accounts.proofs.FinSums.{sum-remove}
 use Rattle.accounts.proofs.Sound.{at_write, sound_topup, sound_charge, sound_add, sound_release, sound_reserve, get_or_push}
 
@@ -55,7 +55,7 @@ module _ (g : Ending) where
 
       apart : key_eq k q ≡ false → map.get (step m k) q ≡ map.get m q
       apart n = elim (ends g k (map.get m k)) as (λ b. map.get (cond b (map.remove m k) m) q ≡ map.get m q) [
-        | true ↦ map.get-remove keys_total m k q ∙ ap (λ b. cond b None (map.get m q)) ((eq_by_cmp_equiv keys_total).symm q k ∙ tied_keys k q ∙ n)
+        | true ↦ map.get-remove keys_total m k q ∙ ap (λ b. cond b None (map.get m q)) ((eq_by_cmp_equiv keys_total).symm q k ∙ keys_tied k q ∙ n)
         | false ↦ refl
       ]
 
@@ -78,7 +78,7 @@ module _ (g : Ending) where
   unlisted : (es : List (Key × Reservation)) (q : Key) → listed q (keys_of es) ≡ false → map.find key_cmp q es ≡ None
   unlisted [] q n = refl
   unlisted (e ∷ es) q n = elim (eq_by_cmp key_cmp q e.0) as (λ b. eq_by_cmp key_cmp q e.0 ≡ b → cond b (Some e.1) (map.find key_cmp q es) ≡ None) [
-    | true ↦ λ t. (let same : key_eq e.0 q ≡ true = sym (tied_keys e.0 q) ∙ (eq_by_cmp_equiv keys_total).symm e.0 q ∙ t in let first = halves (key_eq e.0 q) (listed q (keys_of es)) n in absurd (cc))
+    | true ↦ λ t. (let same : key_eq e.0 q ≡ true = sym (keys_tied e.0 q) ∙ (eq_by_cmp_equiv keys_total).symm e.0 q ∙ t in let first = halves (key_eq e.0 q) (listed q (keys_of es)) n in absurd (cc))
     | false ↦ λ t. unlisted es q (halves (key_eq e.0 q) (listed q (keys_of es)) n).1
   ] refl
     where
@@ -87,7 +87,7 @@ module _ (g : Ending) where
       halves false b e = (refl, e)
 
   all_steps : (m : ReservationMap) → steps (keys_of (map.entries m)) m ≡ without m g
-  all_steps m = map.same_map keys_total exact_keys _ _ (λ q. steps_get (keys_of (map.entries m)) m q ∙ same q ∙ sym (stays m g q))
+  all_steps m = map.same_map keys_total keys_exact _ _ (λ q. steps_get (keys_of (map.entries m)) m q ∙ same q ∙ sym (without_at m g q))
     where
       turned : (e : Bool) (w : Option Reservation) → cond e None w ≡ cond (not e) w None
       turned true w = refl
@@ -101,7 +101,7 @@ module _ (g : Ending) where
 
   less_step : (b : ℕ) (m : ReservationMap) (k : Key) → sum_by (share b) (map.values (step m k)) ≤ sum_by (share b) (map.values m)
   less_step b m k = elim (ends g k (map.get m k)) as (λ e. sum_by (share b) (map.values (cond e (map.remove m k) m)) ≤ sum_by (share b) (map.values m)) [
-    | true ↦ let r = sum-remove keys_total (share b) exact_keys m k in omega arith
+    | true ↦ let r = sum-remove keys_total (share b) keys_exact m k in omega arith
     | false ↦ omega arith
   ]
 

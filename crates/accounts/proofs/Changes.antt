@@ -6,7 +6,6 @@ use Rattle.std.specs.declared.cmp.Ordering.{Ordering}
 use Rattle.std.specs.declared.cmp.Ordering.TheVariants.{Less, Equal, Greater}
 use Rattle.std.specs.Ordering.{eq_by_cmp, is_eq}
 use Rattle.std.proofs.lemmas.Bool.Decides.{nat_tests}
-use Rattle.accounts.proofs.Tables.{exact_keys}
 use Rattle.accounts.proofs.FinSums.{weight, sum-insert, sum-remove}
 use Rattle.std.specs.Cmp.{tied_itself}
 use Rattle.std.proofs.Math.ListN.{get_or-map}
@@ -16,7 +15,7 @@ use Rattle.accounts.specs.declared.reservation.Key.{Key}
 use Rattle.accounts.specs.declared.reservation.Reservation.{Reservation}
 use Rattle.accounts.specs.declared.line.Line.{Line}
 use Rattle.accounts.specs.declared.account.Account.{Account}
-use Rattle.accounts.specs.Reservations.{at, key_cmp, keys_total, ReservationMap, left_of}
+use Rattle.accounts.specs.Reservations.{at, key_cmp, keys_total, ReservationMap, left_of, keys_exact}
 use Rattle.accounts.specs.Ledger.{Numbers, State, nothing, numbers, left, share, reserved, free, from_own, from_free, uncovered}
 use Rattle.accounts.specs.Moves.{ToppedUp, Charged, Reserved, Released, topped_up, debited, lessened_at, lessened, after}
 use Rattle.accounts.specs.Numbers.{numbers_of}
@@ -207,13 +206,13 @@ inserted_other m k a x b d e n =
 
 pub removed_own : (m : ReservationMap) (k : Key) (h : Reservation) → map.get m k ≡ Some h → sum_by (share h.account) (map.values (map.remove m k)) + h.left ≡ sum_by (share h.account) (map.values m)
 removed_own m k h e =
-    let i = sum-remove keys_total (share h.account) exact_keys m k in
+    let i = sum-remove keys_total (share h.account) keys_exact m k in
     let w : weight (share h.account) (map.get m k) ≡ h.left = ap (weight (share h.account)) e ∙ share_is h h.account refl in
     omega arith
 
 pub removed_other : (m : ReservationMap) (k : Key) (h : Reservation) (b : ℕ) → map.get m k ≡ Some h → b ≢ h.account → sum_by (share b) (map.values (map.remove m k)) ≡ sum_by (share b) (map.values m)
 removed_other m k h b e n =
-    let i = sum-remove keys_total (share b) exact_keys m k in
+    let i = sum-remove keys_total (share b) keys_exact m k in
     let w : weight (share b) (map.get m k) ≡ 0 = ap (weight (share b)) e ∙ share_not h b (λ z. n (sym z)) in
     omega arith
 
@@ -244,11 +243,11 @@ release_stands xs m ls t g h old one kept e is n r =
 
 -- to remove what is not there changes nothing
 pub remove_none : (m : ReservationMap) (k : Key) → map.get m k ≡ None → map.remove m k ≡ m
-remove_none m k e = map.same_map keys_total exact_keys _ _ (λ q. map.get-remove keys_total m k q ∙ missing q)
+remove_none m k e = map.same_map keys_total keys_exact _ _ (λ q. map.get-remove keys_total m k q ∙ missing q)
   where
     missing : (q : Key) → cond (eq_by_cmp key_cmp q k) None (map.get m q) ≡ map.get m q
     missing q = elim (eq_by_cmp key_cmp q k) as (λ b. eq_by_cmp key_cmp q k ≡ b → cond b None (map.get m q) ≡ map.get m q) [
-      | true ↦ λ t. sym (ap (map.get m) (exact_keys q k (is_tied _ t)) ∙ e)
+      | true ↦ λ t. sym (ap (map.get m) (keys_exact q k (is_tied _ t)) ∙ e)
       | false ↦ λ t. refl
     ] refl
 
@@ -284,22 +283,3 @@ get_less_own m k x a = by_case (map.get m k) refl
           | true ↦ λ t. let q : h.left ≤ x = grind (arith, nat_tests) in omega arith
           | false ↦ λ t. i
         ] refl
-
-pub free_after_is : (xs : List Account) (m : ReservationMap) (ls : List Line) (a t g x lsn : ℕ) (old : Account) (lf : ℕ) → AreKept xs m ls → a < length xs → old ≡ slice_index_or xs a old → IfSome (map.get m (at t g)) (λ h. h.account ≡ a) → lf ≡ left_of (map.get m (at t g))
-    → (old.topups - old.taken - old.reserved - (x - lf)) + (lf - x) ≡ free (after (Released t g) (after (Charged a t g lsn x) (state_seen xs m ls))) a
-free_after_is xs m ls a t g x lsn old lf k lt is o el =
-    let s = state_seen xs m ls in
-    let n = debited (numbers s a) (from_own s (at t g) x + from_free s a (at t g) x) (uncovered s a (at t g) x) in
-    let was = read_is xs a old lt is in
-    let v : numbers s a ≡ numbers_of old = numbers_seen xs m ls a ∙ ap numbers_of was in
-    let r : old.reserved ≡ reserved s a = sym (ap (λ z. z.reserved) was) ∙ k.sums a in
-    let new : slice_index_or (slice_set s.accounts a n) a nothing ≡ n = get_or-set_same s.accounts a n nothing (subst (λ l. a < l) (sym (seen_length xs)) lt) in
-    let t1 : (slice_index_or (slice_set s.accounts a n) a nothing).taken ≡ n.taken = ap (λ z. z.taken) new in
-    let t2 : (slice_index_or (slice_set s.accounts a n) a nothing).topups ≡ n.topups = ap (λ z. z.topups) new in
-    let u1 : (numbers s a).taken ≡ old.taken = ap (λ z. z.taken) v in
-    let u2 : (numbers s a).topups ≡ old.topups = ap (λ z. z.topups) v in
-    let f = free_within xs m ls a old k lt is in
-    let q1 = sum-remove keys_total (share a) exact_keys (lessened m (at t g) x) (at t g) in
-    let q2 = get_less_own m (at t g) x a o in
-    let q3 = lessened_own m (at t g) x a o in
-    omega arith

@@ -7,8 +7,7 @@ pub mod Dues
 pub mod Books
 pub mod Chained
 pub mod Indexed
-pub mod Slow
-pub mod Nearest
 pub mod Stepped
 pub mod Owners
 pub mod Ending
+pub mod Lined

@@ -8,12 +8,11 @@ use Rattle.std.specs.Prelude.{⊤}
 use Rattle.std.specs.FinMap as map
 use Rattle.accounts.specs.declared.reservation.Key.{Key}
 use Rattle.accounts.specs.declared.reservation.Reservation.{Reservation}
-use Rattle.accounts.specs.Reservations.{at, key_cmp, keys_total, ReservationMap}
-use Rattle.accounts.specs.Endings.{Ending, Session, Until, ends, without}
+use Rattle.accounts.specs.Reservations.{at, key_cmp, keys_total, ReservationMap, keys_exact}
+use Rattle.accounts.specs.Endings.{Ending, Session, Until, ends, without, without_at}
 use Rattle.accounts.specs.Ledger.{State}
 use Rattle.accounts.specs.Moves.{Move, Added, ToppedUp, Charged, Reserved, Released, ReleasedAll, Expired, after, lessened, lessened_at, state_of}
 use Rattle.accounts.specs.Steps.{keeps_owners, OwnersStay, SomeIsLeft}
-use Rattle.accounts.proofs.Tables.{exact_keys, stays}
 
 is_equal : (r : Ordering) → is_eq r ≡ true → r ≡ Equal
 is_equal Less e = cc
@@ -29,13 +28,13 @@ module _ (P : Key → Reservation → Type 0) where
   All m = (k : Key) → IfSome (map.get m k) (P k)
 
   all_insert : (m : ReservationMap) (k : Key) (r : Reservation) → All m → P k r → All (map.insert m k r)
-  all_insert m k r a p q = subst (λ v. IfSome v (P q)) (sym (map.get-insert keys_total m k r q)) (either (eq_by_cmp key_cmp q k) (Some r) (map.get m q) (P q) (λ e. subst (λ j. P j r) (sym (exact_keys q k (is_equal _ e))) p) (a q))
+  all_insert m k r a p q = subst (λ v. IfSome v (P q)) (sym (map.get-insert keys_total m k r q)) (either (eq_by_cmp key_cmp q k) (Some r) (map.get m q) (P q) (λ e. subst (λ j. P j r) (sym (keys_exact q k (is_equal _ e))) p) (a q))
 
   all_remove : (m : ReservationMap) (k : Key) → All m → All (map.remove m k)
   all_remove m k a q = subst (λ v. IfSome v (P q)) (sym (map.get-remove keys_total m k q)) (either (eq_by_cmp key_cmp q k) None (map.get m q) (P q) (λ e. tt) (a q))
 
   all_without : (m : ReservationMap) (g : Ending) → All m → All (without m g)
-  all_without m g a q = subst (λ v. IfSome v (P q)) (sym (stays m g q)) (kept (not (ends g q (map.get m q))))
+  all_without m g a q = subst (λ v. IfSome v (P q)) (sym (without_at m g q)) (kept (not (ends g q (map.get m q))))
     where
       kept : (c : Bool) → IfSome (cond c (map.get m q) None) (P q)
       kept true = a q

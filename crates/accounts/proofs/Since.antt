@@ -5,12 +5,11 @@ use Rattle.std.proofs.lemmas.Bool.Decides.{nat_tests}
 use Rattle.std.specs.Ordering.{eq_by_cmp, is_eq}
 use Rattle.std.specs.Cmp.{tied_itself, eq_by_cmp_equiv}
 use Rattle.std.specs.FinMap as map
-use Rattle.accounts.proofs.Tables.{tied_keys, stays}
 use Rattle.accounts.specs.declared.reservation.Key.{Key}
 use Rattle.accounts.specs.declared.reservation.Reservation.{Reservation}
-use Rattle.accounts.specs.Endings.{Ending}
+use Rattle.accounts.specs.Endings.{Ending, without_at}
 use Rattle.accounts.specs.Endings.{Session, Until}
-use Rattle.accounts.specs.Reservations.{at, key_eq, key_cmp, keys_total, ReservationMap, left_of}
+use Rattle.accounts.specs.Reservations.{at, key_eq, key_cmp, keys_total, ReservationMap, left_of, keys_tied}
 use Rattle.accounts.specs.Endings.{is_passed, ends, without}
 use Rattle.accounts.specs.Ledger.{State}
 use Rattle.accounts.specs.Moves.{Move, Added, ToppedUp, Charged, Reserved, Released, ReleasedAll, Expired, lessened_at, lessened, after, state_of}
@@ -36,7 +35,7 @@ pub tied : (k : Key) → eq_by_cmp key_cmp k k ≡ true
 tied k = ap is_eq (tied_itself keys_total k)
 
 pub tests : (j k : Key) → eq_by_cmp key_cmp k j ≡ key_eq j k
-tests j k = (eq_by_cmp_equiv keys_total).symm k j ∙ tied_keys j k
+tests j k = (eq_by_cmp_equiv keys_total).symm k j ∙ keys_tied j k
 
 -- after a charge to another key
 pub less_apart : (m : ReservationMap) (j k : Key) (y : ℕ) → key_eq j k ≡ false → map.get (lessened m j y) k ≡ map.get m k
@@ -87,7 +86,7 @@ both_true true b e = (refl, e)
 both_true false b e = absurd (cc)
 
 kept_by : (m : ReservationMap) (g : Ending) (k : Key) (a r : ℕ) (d : Option ℕ) → map.get m k ≡ standing a d r → ends g k (standing a d r) ≡ false → map.get (without m g) k ≡ standing a d r
-kept_by m g k a r d e n = stays m g k ∙ ap (λ w. cond (not (ends g k w)) w None) e ∙ ap (λ b. cond (not b) (standing a d r) None) n
+kept_by m g k a r d e n = without_at m g k ∙ ap (λ w. cond (not (ends g k w)) w None) e ∙ ap (λ b. cond (not b) (standing a d r) None) n
 
 ends_standing : (g : Ending) (k : Key) (a r : ℕ) (d : Option ℕ) → ends g k (Some (record { account = a; left = r; deadline = d })) ≡ false → ends g k (standing a d r) ≡ false
 ends_standing g k a r d e = elim (r == 0) as (λ b. ends g k (cond b None (Some (record { account = a; left = r; deadline = d }))) ≡ false) [ true ↦ refl | false ↦ e ]
@@ -157,8 +156,8 @@ none_after s (Reserved a t g x d) k e n =
     ]
 none_after s (Released t g) k e n =
     map.get-remove keys_total s.reservations (at t g) k ∙ elim (eq_by_cmp key_cmp k (at t g)) as (λ b. cond b None (map.get s.reservations k) ≡ None) [ true ↦ refl | false ↦ e ]
-none_after s (ReleasedAll t) k e n = stays s.reservations (Session t) k ∙ ap (λ w. cond (not (ends (Session t) k w)) w None) e
-none_after s (Expired m) k e n = stays s.reservations (Until m) k ∙ ap (λ w. cond (not (ends (Until m) k w)) w None) e
+none_after s (ReleasedAll t) k e n = without_at s.reservations (Session t) k ∙ ap (λ w. cond (not (ends (Session t) k w)) w None) e
+none_after s (Expired m) k e n = without_at s.reservations (Until m) k ∙ ap (λ w. cond (not (ends (Until m) k w)) w None) e
 
 pub has_none : HasNone
 has_none before [] k e n = e

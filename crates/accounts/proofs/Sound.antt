@@ -5,12 +5,11 @@ use Rattle.std.proofs.lemmas.Bool.Decides.{nat_tests}
 use Rattle.std.proofs.lemmas.List.{get_or-set_same, get_or-set_other}
 use Rattle.std.proofs.lemmas.List.Sums.{sum_by_push}
 use Rattle.std.specs.FinMap as map
-use Rattle.accounts.proofs.Tables.{exact_keys}
 use Rattle.accounts.proofs.FinSums.{weight, sum-insert, sum-remove}
 use Rattle.accounts.specs.declared.reservation.Key.{Key}
 use Rattle.accounts.specs.declared.reservation.Reservation.{Reservation}
 use Rattle.accounts.specs.declared.line.Line.{Line}
-use Rattle.accounts.specs.Reservations.{at, keys_total, ReservationMap, left_of}
+use Rattle.accounts.specs.Reservations.{at, keys_total, ReservationMap, left_of, keys_exact}
 use Rattle.accounts.specs.Ledger.{Numbers, State, nothing, numbers, left, share, reserved, free, line_share, debits, from_own, from_free, uncovered}
 use Rattle.accounts.specs.Moves.{Added, ToppedUp, Charged, Reserved, Released, topped_up, debited, lessened_at, lessened, after}
 use Rattle.accounts.specs.Caches.{IsSound}
@@ -39,7 +38,7 @@ lessened_own m k x a = by_case (map.get m k) refl
     by_case None e o = omega arith
     by_case (Some h) e o =
         let w : weight (share a) (map.get m k) ≡ h.left = ap (weight (share a)) e ∙ share_is h a o in
-        let r = sum-remove keys_total (share a) exact_keys m k in
+        let r = sum-remove keys_total (share a) keys_exact m k in
         let g : Reservation = record { account = h.account; left = h.left - x; deadline = h.deadline } in
         let i = sum-insert keys_total (share a) m k g in
         let s : share a g ≡ h.left - x = share_is g a o in
@@ -56,7 +55,7 @@ lessened_other m k x a b = by_case (map.get m k) refl
     by_case (Some h) e o n =
         let no : h.account ≢ b = λ (z : h.account ≡ b). n (sym z ∙ o) in
         let w : weight (share b) (map.get m k) ≡ 0 = ap (weight (share b)) e ∙ share_not h b no in
-        let r = sum-remove keys_total (share b) exact_keys m k in
+        let r = sum-remove keys_total (share b) keys_exact m k in
         let g : Reservation = record { account = h.account; left = h.left - x; deadline = h.deadline } in
         let i = sum-insert keys_total (share b) m k g in
         let s : share b g ≡ 0 = share_not g b no in
@@ -114,7 +113,7 @@ sound_add s b h = record {
 
 pub sound_release : (s : State) (t g b : ℕ) → IsSound s b → IsSound (after (Released t g) s) b
 sound_release s t g b h = record {
-  balance = let r = sum-remove keys_total (share b) exact_keys s.reservations (at t g) in let k = h.balance in omega arith;
+  balance = let r = sum-remove keys_total (share b) keys_exact s.reservations (at t g) in let k = h.balance in omega arith;
   debits = h.debits;
 }
 

@@ -5,11 +5,10 @@ use Rattle.std.proofs.lemmas.List.{get_or-set_same, get_or-set_other}
 use Rattle.std.specs.FinMap as map
 use Rattle.accounts.specs.declared.reservation.Key.{Key}
 use Rattle.accounts.specs.declared.reservation.Reservation.{Reservation}
-use Rattle.accounts.specs.Reservations.{at, keys_total, ReservationMap, left_of}
+use Rattle.accounts.specs.Reservations.{at, keys_total, ReservationMap, left_of, keys_exact}
 use Rattle.accounts.specs.Ledger.{Numbers, nothing, numbers, share, free, left, from_own, from_free, uncovered}
 use Rattle.accounts.specs.Moves.{debited, lessened, lessened_at}
 use Rattle.accounts.specs.Steps.{ChargesTake, ReservesTake, ReleasesGive}
-use Rattle.accounts.proofs.Tables.{exact_keys}
 use Rattle.accounts.proofs.FinSums.{weight, sum-insert, sum-remove}
 use Rattle.accounts.proofs.Sound.{lessened_own, lessened_other, share_is, share_not}
 use Rattle.accounts.proofs.Since.{less_apart, tied, tests}
@@ -85,10 +84,10 @@ no_weight (Some r) a b o n = share_not r b (λ z. n (sym z ∙ o))
 
 pub releases_give : ReleasesGive
 releases_give s a t g own h = record {
-  free = let r = sum-remove keys_total (share a) exact_keys s.reservations (at t g) in let w = own_weight (map.get s.reservations (at t g)) a own in let within = h.within in omega arith;
+  free = let r = sum-remove keys_total (share a) keys_exact s.reservations (at t g) in let w = own_weight (map.get s.reservations (at t g)) a own in let within = h.within in omega arith;
   left = ap left_of (map.get-remove keys_total s.reservations (at t g) (at t g) ∙ ap (λ b. cond b None (map.get s.reservations (at t g))) (tied (at t g)));
   others = record {
-    free = λ b n. let r = sum-remove keys_total (share b) exact_keys s.reservations (at t g) in let w = no_weight (map.get s.reservations (at t g)) a b own n in omega arith;
+    free = λ b n. let r = sum-remove keys_total (share b) keys_exact s.reservations (at t g) in let w = no_weight (map.get s.reservations (at t g)) a b own n in omega arith;
     left = λ k e. ap left_of (map.get-remove keys_total s.reservations (at t g) k ∙ ap (λ b. cond b None (map.get s.reservations k)) (tests (at t g) k ∙ e));
   };
 }

@@ -1,68 +1,49 @@
 -- The entries of a hash table, as a finite map.
-use Rattle.std.proofs.Common.{◌≡◌, ◌≢◌, ◌<◌, ◌≤◌, nat_le, ◌+◌, ◌-◌, not, ℕ, Bool, true, false, cond, ◌&&◌, ◌||◌, List, [], ◌∷◌, Option, Some, None, refl, sym, ap, ◌∙◌, subst, arith}
+use Rattle.std.proofs.Common.{◌≡◌, ◌≢◌, ◌<◌, ◌≤◌, nat_le, ◌+◌, ◌-◌, not, ℕ, Bool, true, false, cond, ◌&&◌, List, [], ◌∷◌, Option, Some, None, refl, sym, ap, ◌∙◌, subst, arith}
 use Rattle.std.specs.declared.cmp.Ordering.{Ordering}
 use Rattle.std.specs.declared.cmp.Ordering.TheVariants.{Less, Equal, Greater}
 use Rattle.std.specs.Ordering.{nat_cmp, ordering_then, eq_by_cmp, is_eq}
 use Rattle.std.specs.Result.{IsOk, OnOk, OnErr}
 use Rattle.std.proofs.lemmas.Bool.Decides.{nat_tests}
 use Rattle.std.specs.Prelude.{Result, Ok, Err}
-use Rattle.std.specs.Cmp.{IsEquivalence, eq_by_cmp_equiv, unsigned_tied}
+use Rattle.std.specs.Cmp.{eq_by_cmp_equiv, unsigned_tied}
 use Rattle.std.specs.Map.{lookup}
 use Rattle.std.specs.FinMap.{find, from_entries, get, insert, remove, len, len-remove, empty_of_len, get-empty, get-retain_keys, get-from_entries, get-insert, get-remove, same_map}
-use Rattle.std.specs.Option.{MatchOption, is_some}
+use Rattle.std.specs.Option.{is_some}
 use Rattle.std.proofs.lemmas.Map.Lookups.{CmpEqualImpliesEq, exact_pairs, exact_unsigned}
-use Rattle.std.specs.List.{list_any}
 use Rattle.accounts.specs.declared.reservation.Key.{Key}
 use Rattle.accounts.specs.declared.reservation.Reservation.{Reservation}
 use Rattle.accounts.specs.Endings.{Ending}
-use Rattle.accounts.specs.Reservations.{key_eq, key_cmp, keys_total, ReservationMap}
-use Rattle.accounts.specs.Endings.{is_ending, ends, without}
+use Rattle.accounts.specs.Reservations.{key_eq, key_cmp, keys_total, keys_exact, keys_tied, ReservationMap}
+use Rattle.accounts.specs.Endings.{ends, without, without_at}
 use Rattle.accounts.specs.Moves.{lessened_at, lessened}
-
-pub exact_keys : CmpEqualImpliesEq key_cmp
-exact_keys a b h = ap (λ (p : ℕ × ℕ). record { session = p.0; group = p.1 }) (exact_pairs nat_cmp nat_cmp exact_unsigned exact_unsigned (a.session, a.group) (b.session, b.group) h)
-
-then_eq : (a b : Ordering) → is_eq (ordering_then a b) ≡ (is_eq a && is_eq b)
-then_eq Less b = refl
-then_eq Equal b = refl
-then_eq Greater b = refl
-
-pub tied_keys : (a b : Key) → eq_by_cmp key_cmp a b ≡ key_eq a b
-tied_keys a b = then_eq (nat_cmp a.session b.session) (nat_cmp a.group b.group) ∙ cc (unsigned_tied a.session b.session, unsigned_tied a.group b.group)
 
 find_key : (es : List (Key × Reservation)) (q : Key) → find key_cmp q es ≡ lookup (key_eq q) es
 find_key [] q = refl
-find_key (e ∷ es) q = ap (λ b. cond b (Some e.1) (find key_cmp q es)) (tied_keys q e.0) ∙ ap (cond (key_eq q e.0) (Some e.1)) (find_key es q)
+find_key (e ∷ es) q = ap (λ b. cond b (Some e.1) (find key_cmp q es)) (keys_tied q e.0) ∙ ap (cond (key_eq q e.0) (Some e.1)) (find_key es q)
 
 -- what the map that the entries make has at a key
 pub get_key : (es : List (Key × Reservation)) (q : Key) → get (from_entries {R = key_cmp} es) q ≡ lookup (key_eq q) es
 get_key es q = get-from_entries keys_total es q ∙ find_key es q
 
-key_eq_sym : (a b : Key) → key_eq a b ≡ key_eq b a
-key_eq_sym a b = sym (tied_keys a b) ∙ (eq_by_cmp_equiv keys_total).symm a b ∙ tied_keys b a
-
 -- entries that differ at one key make maps that differ there
 pub one_set : (es fs : List (Key × Reservation)) (k : Key) (h : Reservation) → ((q : Key) → lookup (key_eq q) fs ≡ cond (key_eq k q) (Some h) (lookup (key_eq q) es)) → from_entries {R = key_cmp} fs ≡ insert (from_entries es) k h
-one_set es fs k h e = same_map keys_total exact_keys _ _ (λ q.
-    get_key fs q ∙ e q ∙ ap (λ b. cond b (Some h) (lookup (key_eq q) es)) (sym (tied_keys k q) ∙ (eq_by_cmp_equiv keys_total).symm k q)
+one_set es fs k h e = same_map keys_total keys_exact _ _ (λ q.
+    get_key fs q ∙ e q ∙ ap (λ b. cond b (Some h) (lookup (key_eq q) es)) (sym (keys_tied k q) ∙ (eq_by_cmp_equiv keys_total).symm k q)
     ∙ sym (get-insert keys_total (from_entries es) k h q ∙ ap (cond (eq_by_cmp key_cmp q k) (Some h)) (get_key es q)))
 
 pub one_removed : (es fs : List (Key × Reservation)) (k : Key) → ((q : Key) → lookup (key_eq q) fs ≡ cond (key_eq k q) None (lookup (key_eq q) es)) → from_entries {R = key_cmp} fs ≡ remove (from_entries es) k
-one_removed es fs k e = same_map keys_total exact_keys _ _ (λ q.
-    get_key fs q ∙ e q ∙ ap (λ b. cond b None (lookup (key_eq q) es)) (sym (tied_keys k q) ∙ (eq_by_cmp_equiv keys_total).symm k q)
+one_removed es fs k e = same_map keys_total keys_exact _ _ (λ q.
+    get_key fs q ∙ e q ∙ ap (λ b. cond b None (lookup (key_eq q) es)) (sym (keys_tied k q) ∙ (eq_by_cmp_equiv keys_total).symm k q)
     ∙ sym (get-remove keys_total (from_entries es) k q ∙ ap (cond (eq_by_cmp key_cmp q k) None) (get_key es q)))
 
 -- entries that answer alike make one map
 pub same_held : (es fs : List (Key × Reservation)) → ((q : Key) → lookup (key_eq q) fs ≡ lookup (key_eq q) es) → from_entries {R = key_cmp} fs ≡ from_entries es
-same_held es fs e = same_map keys_total exact_keys _ _ (λ q. get_key fs q ∙ e q ∙ sym (get_key es q))
+same_held es fs e = same_map keys_total keys_exact _ _ (λ q. get_key fs q ∙ e q ∙ sym (get_key es q))
 
 pub from_ok : {T E : Type 0} (r : Result T E) (P : Type 0) → IsOk r → OnOk r P → P
 from_ok (Ok x) P h p = p
 from_ok (Err e) P h p = absurd (cc)
-
-halves : (a b : Bool) → (a || b) ≡ false → (a ≡ false) × (b ≡ false)
-halves true b e = absurd (cc)
-halves false b e = (refl, e)
 
 is_tied : (r : Ordering) → is_eq r ≡ true → r ≡ Equal
 is_tied Less e = cc
@@ -70,44 +51,21 @@ is_tied Equal e = refl
 is_tied Greater e = cc
 
 pub same_key : (a b : Key) → key_eq a b ≡ true → a ≡ b
-same_key a b e = exact_keys a b (is_tied (key_cmp a b) (tied_keys a b ∙ e))
-
--- where none of the entries goes, none goes at any key
-pub none_goes : (g : Ending) (es : List (Key × Reservation)) → list_any (λ e. is_ending g e.0 e.1) es ≡ false → (k : Key) → ends g k (lookup (key_eq k) es) ≡ false
-none_goes g [] n k = refl
-none_goes g (e ∷ es) n k =
-    let h = halves (is_ending g e.0 e.1) (list_any (λ e. is_ending g e.0 e.1) es) n in
-    elim (key_eq k e.0) as (λ b. key_eq k e.0 ≡ b → ends g k (cond b (Some e.1) (lookup (key_eq k) es)) ≡ false) [
-      | true ↦ λ t. ap (λ j. is_ending g j e.1) (same_key k e.0 t) ∙ h.0
-      | false ↦ λ t. none_goes g es h.1 k
-    ] refl
-
-pub key_equiv : IsEquivalence key_eq
-key_equiv = subst IsEquivalence (λ i a b. tied_keys a b i) (eq_by_cmp_equiv keys_total)
-
--- what a search in the table found, at the finite map
-pub found_as : (r : Option Key) (g : Ending) (es : List (Key × Reservation)) (m : ReservationMap) → from_entries {R = key_cmp} es ≡ m
-    → MatchOption r ((k : Key) → ends g k (lookup (key_eq k) es) ≡ false) (λ k. ends g k (lookup (key_eq k) es) ≡ true)
-    → MatchOption r ((k : Key) → ends g k (get m k) ≡ false) (λ k. ends g k (get m k) ≡ true)
-found_as None g es m e h = λ k. ap (ends g k) (ap (λ n. get n k) (sym e) ∙ get_key es k) ∙ h k
-found_as (Some k) g es m e h = ap (ends g k) (ap (λ n. get n k) (sym e) ∙ get_key es k) ∙ h
-
-pub stays : (m : ReservationMap) (g : Ending) (q : Key) → get (without m g) q ≡ cond (not (ends g q (get m q))) (get m q) None
-stays m g q = get-retain_keys m (λ k. not (ends g k (get m k))) q (λ x t. ap (λ k. not (ends g k (get m k))) (sym (exact_keys q x t)))
+same_key a b e = keys_exact a b (is_tied (key_cmp a b) (keys_tied a b ∙ e))
 
 -- to remove a key that goes changes nothing of what stays
 pub without_removed : (m : ReservationMap) (g : Ending) (k : Key) → ends g k (get m k) ≡ true → without (remove m k) g ≡ without m g
-without_removed m g k e = same_map keys_total exact_keys _ _ (λ q. stays (remove m k) g q ∙ at_key q ∙ sym (stays m g q))
+without_removed m g k e = same_map keys_total keys_exact _ _ (λ q. without_at (remove m k) g q ∙ at_key q ∙ sym (without_at m g q))
   where
     at_key : (q : Key) → cond (not (ends g q (get (remove m k) q))) (get (remove m k) q) None ≡ cond (not (ends g q (get m q))) (get m q) None
     at_key q = ap (λ w. cond (not (ends g q w)) w None) (get-remove keys_total m k q)
         ∙ elim (eq_by_cmp key_cmp q k) as (λ b. eq_by_cmp key_cmp q k ≡ b → cond (not (ends g q (cond b None (get m q)))) (cond b None (get m q)) None ≡ cond (not (ends g q (get m q))) (get m q) None) [
-          | true ↦ λ t. let same : ends g q (get m q) ≡ true = (let j : q ≡ k = exact_keys q k (is_tied _ t) in ap (λ z. ends g z (get m z)) j ∙ e) in sym (ap (λ b. cond (not b) (get m q) None) same)
+          | true ↦ λ t. let same : ends g q (get m q) ≡ true = (let j : q ≡ k = keys_exact q k (is_tied _ t) in ap (λ z. ends g z (get m z)) j ∙ e) in sym (ap (λ b. cond (not b) (get m q) None) same)
           | false ↦ λ t. refl
         ] refl
 
 pub without_none : (m : ReservationMap) (g : Ending) → ((k : Key) → ends g k (get m k) ≡ false) → without m g ≡ m
-without_none m g h = same_map keys_total exact_keys _ _ (λ q. stays m g q ∙ ap (λ b. cond (not b) (get m q) None) (h q))
+without_none m g h = same_map keys_total keys_exact _ _ (λ q. without_at m g q ∙ ap (λ b. cond (not b) (get m q) None) (h q))
 
 pub len_removed : (m : ReservationMap) (g : Ending) (k : Key) → ends g k (get m k) ≡ true → len (remove m k) + 1 ≡ len m
 len_removed m g k e = some (get m k) refl e
@@ -134,10 +92,3 @@ from_found (Err y) w x P absent e p = absurd (cc)
 -- what the table has at a key is what the map has
 pub stored_at : (es : List (Key × Reservation)) (m : ReservationMap) → from_entries {R = key_cmp} es ≡ m → (q : Key) → lookup (key_eq q) es ≡ get m q
 stored_at es m e q = sym (get_key es q) ∙ ap (λ n. get n q) e
-
--- what is left where all is taken
-pub lessened_all : (m : ReservationMap) (k : Key) (x : ℕ) (r : Reservation) → get m k ≡ Some r → r.left ≤ x → lessened m k x ≡ remove m k
-lessened_all m k x r e le = ap (lessened_at m k x) e ∙ ap (λ b. cond b (remove m k) (insert m k (record { account = r.account; left = r.left - x; deadline = r.deadline }))) all
-  where
-    all : nat_le r.left x ≡ true
-    all = grind (arith, nat_tests)

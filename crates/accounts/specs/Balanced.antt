@@ -1,7 +1,7 @@
 -- What holds of each account after every list of moves (this product's own).
 use Rattle.std.specs.Prelude.{◌≡◌, ℕ, ◌+◌, ◌≤◌, ◌==◌, if◌then◌else◌, List, sum_by}
 use Rattle.accounts.specs.Ledger.{State, numbers, balance, reserved, debits}
-use Rattle.accounts.specs.Moves.{Move, Added, ToppedUp, Charged, Reserved, Released, ReleasedAll, Expired, state_of, AreAllowed}
+use Rattle.accounts.specs.Moves.{Move, ToppedUp, state_of, AreAllowed}
 
 -- the balance and the lines are together the top-ups and what is owed, and what is set aside is within the balance
 pub record IsBalanced (s : State) (account : ℕ) : Type 0 where
@@ -15,13 +15,8 @@ BooksBalance = (moves : List Move) (account : ℕ) → AreAllowed moves → IsBa
 
 -- what a move tops up on an account
 abbrev pub topup_of : ℕ → Move → ℕ
-topup_of account Added = 0
 topup_of account (ToppedUp a amount) = if a == account then amount else 0
-topup_of account (Charged a session group lsn amount) = 0
-topup_of account (Reserved a session group amount deadline) = 0
-topup_of account (Released session group) = 0
-topup_of account (ReleasedAll session) = 0
-topup_of account (Expired moment) = 0
+topup_of account move = 0
 
 -- the top-ups are the sum of the amounts topped up
 abbrev pub TopupsAreSummed : Type 0

@@ -5,7 +5,7 @@ pub mod Moves
 pub mod Deadlines
 pub mod Answers
 pub mod Balanced
-pub mod Plain
+pub mod Lines
 pub mod Since
 pub mod Steps
 pub mod Chains

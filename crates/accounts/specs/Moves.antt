@@ -61,13 +61,10 @@ state_of (m ∷ ms) = after m (state_of ms)
 
 -- when a move may be made: what the calls require, and do not refuse
 abbrev pub IsAllowed : State → Move → Type 0
-IsAllowed s Added = ⊤
 IsAllowed s (ToppedUp account amount) = account < length s.accounts
 IsAllowed s (Charged account session group lsn amount) = (account < length s.accounts) × IfSome (map.get s.reservations (at session group)) (λ r. r.account ≡ account)
 IsAllowed s (Reserved account session group amount deadline) = (account < length s.accounts) × (map.get s.reservations (at session group) ≡ None) × (amount ≤ free s account)
-IsAllowed s (Released session group) = ⊤
-IsAllowed s (ReleasedAll session) = ⊤
-IsAllowed s (Expired moment) = ⊤
+IsAllowed s move = ⊤
 
 -- each move of the list was allowed where it was made
 abbrev pub AreAllowed : List Move → Type 0

@@ -5,17 +5,12 @@ use Rattle.accounts.specs.declared.reservation.Key.{Key}
 use Rattle.accounts.specs.Reservations.{at, key_eq}
 use Rattle.accounts.specs.Endings.{is_passed}
 use Rattle.accounts.specs.Ledger.{left, uncovered}
-use Rattle.accounts.specs.Moves.{Move, Added, ToppedUp, Charged, Reserved, Released, ReleasedAll, Expired, state_of}
+use Rattle.accounts.specs.Moves.{Move, Charged, Reserved, Released, ReleasedAll, Expired, state_of}
 
 -- what a move charges to a session and rating group
 abbrev pub charge_of : Key → Move → ℕ
-charge_of key Added = 0
-charge_of key (ToppedUp account amount) = 0
 charge_of key (Charged account session group lsn amount) = if key_eq (at session group) key then amount else 0
-charge_of key (Reserved account session group amount deadline) = 0
-charge_of key (Released session group) = 0
-charge_of key (ReleasedAll session) = 0
-charge_of key (Expired moment) = 0
+charge_of key move = 0
 
 -- what all these moves charge to it
 abbrev pub charged : Key → List Move → ℕ
@@ -24,13 +19,11 @@ charged key (m ∷ ms) = charged key ms + charge_of key m
 
 -- whether a move neither releases nor replaces its reservation, nor is an expiry at or after this deadline
 abbrev pub leaves : Key → Option ℕ → Move → Bool
-leaves key deadline Added = true
-leaves key deadline (ToppedUp account amount) = true
-leaves key deadline (Charged account session group lsn amount) = true
 leaves key deadline (Reserved account session group amount other) = not (key_eq (at session group) key)
 leaves key deadline (Released session group) = not (key_eq (at session group) key)
 leaves key deadline (ReleasedAll session) = not (key.session == session)
 leaves key deadline (Expired moment) = not (is_passed moment deadline)
+leaves key deadline move = true
 
 -- none of the moves does
 abbrev pub all_leave : Key → Option ℕ → List Move → Bool
@@ -52,13 +45,8 @@ OwesNothing = (before later : List Move) (account session group amount next : �
 
 -- whether a move sets nothing aside for a session and rating group
 abbrev pub sets_nothing : Key → Move → Bool
-sets_nothing key Added = true
-sets_nothing key (ToppedUp account amount) = true
-sets_nothing key (Charged account session group lsn amount) = true
 sets_nothing key (Reserved account session group amount deadline) = not (key_eq (at session group) key)
-sets_nothing key (Released session group) = true
-sets_nothing key (ReleasedAll session) = true
-sets_nothing key (Expired moment) = true
+sets_nothing key move = true
 
 -- none of the moves sets anything aside for it
 abbrev pub all_set_nothing : Key → List Move → Bool

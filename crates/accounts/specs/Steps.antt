@@ -4,7 +4,7 @@ use Rattle.std.specs.FinMap as map
 use Rattle.accounts.specs.declared.reservation.Key.{Key}
 use Rattle.accounts.specs.Reservations.{at, key_eq}
 use Rattle.accounts.specs.Ledger.{State, free, left}
-use Rattle.accounts.specs.Moves.{Move, Added, ToppedUp, Charged, Reserved, Released, ReleasedAll, Expired, after, state_of, IsAllowed}
+use Rattle.accounts.specs.Moves.{Move, Charged, Reserved, Released, after, state_of, IsAllowed}
 use Rattle.accounts.specs.Balanced.{IsBalanced}
 
 -- all that is free on other accounts, and left of other reservations, stays
@@ -58,13 +58,8 @@ AreOwned owner s = (key : Key) → IfSome (map.get s.reservations key) (λ r. ow
 
 -- whether a move makes no other
 abbrev pub keeps_owners : (Key → ℕ → Bool) → Move → Bool
-keeps_owners owner Added = true
-keeps_owners owner (ToppedUp account amount) = true
-keeps_owners owner (Charged account session group lsn amount) = true
 keeps_owners owner (Reserved account session group amount deadline) = owner (at session group) account
-keeps_owners owner (Released session group) = true
-keeps_owners owner (ReleasedAll session) = true
-keeps_owners owner (Expired moment) = true
+keeps_owners owner move = true
 
 -- so it stays with each move that makes no other
 abbrev pub OwnersStay : Type 0

@@ -1,3 +1,4 @@
+//! The running numbers of one account.
 ghost use Rattle.std.specs.Prelude.{◌≡◌, ◌≤◌, ◌<◌, ◌+◌, ◌-◌, ◌^◌, min};
 ghost use Rattle.accounts.specs.Moves.{topped_up, debited};
 ghost use Rattle.accounts.specs.Numbers.{numbers_of};

@@ -1,4 +1,5 @@
-ghost use Rattle.std.specs.Prelude.{◌≡◌, ◌≤◌, ◌<◌, ◌+◌, ◌-◌, ◌^◌, ℕ, length, IfSome, MatchOption, None, OnOk, OnErr, not, ◌==◌};
+//! The calls of the accounts: each makes one move, or reads.
+ghost use Rattle.std.specs.Prelude.{◌≡◌, ◌≤◌, ◌<◌, ◌+◌, ◌-◌, ◌^◌, ℕ, length, IfSome, IsOk, MatchOption, None, OnOk, OnErr, not, ◌==◌};
 ghost use Rattle.std.specs.FinMap as map;
 ghost use Rattle.accounts.specs.Reservations.{at};
 ghost use Rattle.accounts.specs.Endings.{count_ending, IsOneEnding, Session, Until};
@@ -21,8 +22,8 @@ use units::{Moment, OutOfMemory};
 
 /// The accounts, what is set aside from them for sessions, and the ledger (this product's own).
 ///
-/// Accounts and sessions are numbers here. Amounts are in the smallest unit of the currency, and the sums of an account
-/// stay below 2^128, which is the caller's condition.
+/// Accounts and sessions are numbers here. Amounts are in grains, which are 10^-12 of a unit of the currency, and the sums of an
+/// account stay below 2^128, which is the caller's condition.
 #[derive(Drop)]
 pub struct Accounts {
     accounts: Vec<Account>,
@@ -55,9 +56,11 @@ impl Accounts {
         }
     }
 
-    /// Makes room for that many more accounts, lines and reservations. Nothing else changes, also where it fails.
+    /// Makes room for that many more accounts, lines and reservations. Nothing else changes, also where it fails; it does not where the
+    /// room is there already.
     pub fn make_room(&mut self, _alloc: Global, n: usize) -> Result<(), OutOfMemory>
         ensures room { OnOk result (n ≤ self.new.spare) }
+        ensures there { n ≤ self.old.spare → IsOk result }
         ensures same { self.new.state ≡ self.old.state }
     {
         self.accounts.reserve(n)?;
@@ -73,6 +76,7 @@ impl Accounts {
         ensures number { result ≡ length self.old.state.accounts }
         ensures state { self.new.state ≡ after Added self.old.state }
         ensures spare { self.old.spare ≤ self.new.spare + 1 }
+        ensures taken { self.new.spare ≤ self.old.spare }
     {
         let number = self.accounts.len() as u32;
         self.accounts.push_reserved(Account::empty());
@@ -84,7 +88,7 @@ impl Accounts {
         requires known { account < length self.old.state.accounts }
         requires bound { (numbers self.old.state account).topups + amount < 2 ^ 128 }
         ensures state { self.new.state ≡ after (ToppedUp account amount) self.old.state }
-        ensures spare { self.old.spare ≤ self.new.spare }
+        ensures spare { self.new.spare ≡ self.old.spare }
     {
         let one = self.accounts[account as usize].topped_up(amount);
         self.accounts[account as usize] = one;

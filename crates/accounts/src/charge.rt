@@ -1,3 +1,4 @@
+//! The parts of a charge.
 /// Where the amount of a charge came from: the three parts are together the amount (this product's own).
 #[derive(Clone, Copy, Debug, PartialEq, Eq)]
 pub struct Charge {

@@ -1,4 +1,5 @@
-ghost use Rattle.std.specs.Prelude.{◌≡◌, ◌≤◌, ◌<◌, ◌+◌, ◌∷◌, [], All, IfSome, OnOk, slice_get, Some};
+//! Deadlines in a heap, the soonest first.
+ghost use Rattle.std.specs.Prelude.{◌≡◌, ◌≤◌, ◌<◌, ◌+◌, ◌∷◌, [], All, IfSome, IsOk, OnOk, slice_get, Some};
 ghost use Rattle.std.specs.List.Sorted.{IsPermutation};
 ghost use Rattle.accounts.specs.declared.due.Due.{Due as DueSeen};
 
@@ -50,6 +51,7 @@ impl Deadlines {
     /// Makes room for that many more.
     pub fn make_room(&mut self, n: usize) -> Result<(), AllocError>
         ensures room { OnOk result (n ≤ self.new.spare) }
+        ensures there { n ≤ self.old.spare → IsOk result }
         ensures same { self.new.dues ≡ self.old.dues }
     {
         self.heap.reserve(n)

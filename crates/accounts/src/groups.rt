@@ -1,4 +1,5 @@
-ghost use Rattle.std.specs.Prelude.{◌≡◌, ◌≢◌, ◌≤◌, ◌<◌, ◌+◌, ◌⊎◌, ◌==◌, ◌&&◌, ◌||◌, if◌then◌else◌, not, ℕ, Some, None, IsSome, is_some, OnOk};
+//! The rating groups of each session, chained.
+ghost use Rattle.std.specs.Prelude.{◌≡◌, ◌≢◌, ◌≤◌, ◌<◌, ◌+◌, ◌⊎◌, ◌==◌, ◌&&◌, ◌||◌, if◌then◌else◌, not, ℕ, Some, None, IsSome, is_some, IsOk, OnOk};
 ghost use Rattle.std.specs.HashMap.{get, spare, hash_map_len};
 ghost use Rattle.accounts.specs.declared.reservation.Key.{Key as KeySeen};
 ghost use Rattle.accounts.specs.Reservations.{at, key_eq};
@@ -59,6 +60,7 @@ impl Groups {
         ensures next { (k : KeySeen) → next_of self.new k ≡ next_of self.old k }
         ensures room_first { OnOk result (n ≤ spare self.new.first) }
         ensures room_next { OnOk result (n ≤ spare self.new.next) }
+        ensures there { n ≤ spare self.old.first → n ≤ spare self.old.next → IsOk result }
     {
         let first = self.first.reserve(n);
         let next = self.next.reserve(n);

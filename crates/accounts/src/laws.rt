@@ -1,5 +1,6 @@
 //! What holds of every list of moves, and of one.
 ghost use Rattle.accounts.specs.Balanced.{BooksBalance, TopupsAreSummed};
+ghost use Rattle.accounts.specs.Lines.{LinesAreCharges};
 ghost use Rattle.accounts.specs.Since.{HasLeft, OwesNothing, HasNone};
 ghost use Rattle.accounts.specs.Steps.{ChargesTake, ReservesTake, ReleasesGive, BalanceStays, OwnersStay, SomeIsLeft};
 
@@ -32,4 +33,9 @@ pub fn moves_change_free()
 pub fn reservations_stay()
     ensures owners { OwnersStay }
     ensures some { SomeIsLeft }
+{}
+
+/// After every list of moves the ledger has a line for each charge, the oldest first, and no other (this product's own).
+pub fn lines_are_charges()
+    ensures { LinesAreCharges }
 {}

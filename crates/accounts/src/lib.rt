@@ -29,6 +29,8 @@ mod reservations;
 
 pub use accounts::Accounts;
 pub use charge::Charge;
-pub use laws::{accounts_balance, moves_change_free, reservations_hold, reservations_stay};
+pub use laws::{
+    accounts_balance, lines_are_charges, moves_change_free, reservations_hold, reservations_stay,
+};
 pub use line::Line;
 pub use refusal::AccountRefusal;

@@ -1,3 +1,4 @@
+//! A line of the ledger.
 /// A line of the ledger: what one used unit container cost (this product's own).
 #[derive(Clone, Copy, Debug, PartialEq, Eq)]
 pub struct Line {
@@ -7,6 +8,6 @@ pub struct Line {
     pub session: u32,
     /// The local sequence number of the used unit container (TS 32.290, 6.1.1.3).
     pub lsn: u32,
-    /// The amount charged, below 2^94.
+    /// The amount charged, in grains.
     pub amount: u128,
 }

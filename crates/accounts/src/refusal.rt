@@ -1,3 +1,4 @@
+//! Why an account refuses.
 /// Why an account refuses (this product's own).
 #[derive(Clone, Copy, Debug, PartialEq, Eq)]
 pub enum AccountRefusal {

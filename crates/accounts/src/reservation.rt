@@ -1,3 +1,4 @@
+//! An amount that is set aside, and for whom.
 use units::Moment;
 
 /// For whom an amount is set aside: a session and a rating group (this product's own).

@@ -1,4 +1,5 @@
-ghost use Rattle.std.specs.Prelude.{◌≡◌, ◌≢◌, ◌≤◌, ◌<◌, ◌+◌, ◌↔◌, ℕ, IsTrue, is_some, OnOk, Contains, None, Some, false};
+//! What is set aside, by session and rating group, with the deadlines in order and the groups of each session.
+ghost use Rattle.std.specs.Prelude.{◌≡◌, ◌≢◌, ◌≤◌, ◌<◌, ◌+◌, ◌↔◌, ℕ, IsTrue, IsOk, is_some, OnOk, Contains, None, Some, false};
 ghost use Rattle.std.specs.FinMap as map;
 ghost use Rattle.std.specs.HashMap.{get, spare};
 ghost use Rattle.accounts.specs.declared.due.Due.{Due as DueSeen};
@@ -120,6 +121,7 @@ impl Reservations {
     /// Makes room for that many more.
     pub fn make_room(&mut self, n: usize) -> Result<(), AllocError>
         ensures room { OnOk result (n ≤ self.new.spare) }
+        ensures there { n ≤ self.old.spare → IsOk result }
         ensures same { self.new.of ≡ self.old.of }
     {
         let table = self.table.reserve(n);

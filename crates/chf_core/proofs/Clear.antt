@@ -9,10 +9,9 @@ use Rattle.units.specs.declared.request.UnitUsage.{UnitUsage}
 use Rattle.rating.specs.declared.grant.Grant.{Grant}
 use Rattle.accounts.specs.declared.reservation.Key.{Key as Pair}
 use Rattle.accounts.specs.declared.reservation.Reservation.{Reservation}
-use Rattle.accounts.specs.Reservations.{ReservationMap, at, key_cmp, keys_total}
+use Rattle.accounts.specs.Reservations.{ReservationMap, at, key_cmp, keys_total, keys_tied}
 use Rattle.accounts.specs.Ledger.{State}
 use Rattle.accounts.specs.Moves.{after, Released}
-use Rattle.accounts.proofs.Tables.{tied_keys}
 use Rattle.chf_core.specs.declared.target.Target.{Target}
 use Rattle.chf_core.specs.declared.target.GroupAsk.{GroupAsk}
 use Rattle.chf_core.specs.Effect.{Rating, released, released_one, gives_back, mentions, first_ask, asking, asks_after, asks_of, with_grant, deadline_of}
@@ -114,7 +113,7 @@ asks_clear t usage s = clear_after t [] usage s
 
 -- a grant leaves the other groups clear
 apart_keys : (t a b : ℕ) → (a == b) ≡ false → eq_by_cmp key_cmp (at t b) (at t a) ≡ false
-apart_keys t a b e = tied_keys (at t b) (at t a) ∙ (let f : (b == a) ≡ false = grind (arith, nat_tests) in ap (λ x. t == t && x) f ∙ no (t == t))
+apart_keys t a b e = keys_tied (at t b) (at t a) ∙ (let f : (b == a) ≡ false = grind (arith, nat_tests) in ap (λ x. t == t && x) f ∙ no (t == t))
   where
     no : (x : Bool) → (x && false) ≡ false
     no true = refl

@@ -2,7 +2,8 @@
 use Rattle.std.proofs.Common.{◌≡◌, ◌<◌, ◌==◌, ◌&&◌, ℕ, Bool, true, false, cond, List, [], ◌∷◌, length, Option, Some, None, refl, sym, ap, ◌∙◌, arith}
 use Rattle.units.specs.declared.request.Request.{Request}
 use Rattle.units.specs.declared.reply.Reply.{Reply}
-use Rattle.sessions.specs.Kept.{first_reply as replied}
+use Rattle.std.specs.Option.{option_or}
+use Rattle.sessions.specs.Kept.{Kept as KeptRequest, first_reply as replied}
 use Rattle.chf_core.specs.declared.key.Key.{Key}
 use Rattle.chf_core.specs.declared.command.Command.{Command}
 use Rattle.chf_core.specs.declared.command.Command.TheVariants.{Setup, Charge, Subscriber, TopUp, Expire}
@@ -16,7 +17,7 @@ use Rattle.chf_core.specs.Outcomes.{outcome_of, outcome_at}
 use Rattle.chf_core.specs.KeptRequests.{is_of, kept_of, IsFirstReply}
 use Rattle.chf_core.proofs.Places.{eq_yes, eq_no}
 use Rattle.chf_core.proofs.Named.{found_from, place_within, both}
-use Rattle.chf_core.proofs.Keyed.{own_number}
+use Rattle.chf_core.proofs.Keyed.{own_number, none_under}
 
 -- the reply at the place of a key
 record Replied (a : List Command) (k : Key) (place : ℕ) : Type 0 where
@@ -24,56 +25,55 @@ record Replied (a : List Command) (k : Key) (place : ℕ) : Type 0 where
   is_first : replied (kept_of a k.session) k.number ≡ Some reply
   is_kept : outcome_at a place ≡ Some (Charged reply)
 
--- one more command, which is after the place
-later : (a : List Command) (c : Command) (k : Key) (place : ℕ) → place < length a → replied (kept_of (c ∷ a) k.session) k.number ≡ replied (kept_of a k.session) k.number → Replied a k place → Replied (c ∷ a) k place
-later a c k place l e h = record {
+-- a first reply stands with one more command, which is after the place
+later : (a : List Command) (c : Command) (k : Key) (place : ℕ) → place < length a
+    → ((reply : Reply) → replied (kept_of a k.session) k.number ≡ Some reply → replied (kept_of (c ∷ a) k.session) k.number ≡ Some reply) → Replied a k place → Replied (c ∷ a) k place
+later a c k place l stands h = record {
   reply = h.reply;
-  is_first = e ∙ h.is_first;
+  is_first = stands h.reply h.is_first;
   is_kept = ap (λ b. cond b (Some (outcome_of a c)) (outcome_at a place)) (eq_no (length a) place (omega arith)) ∙ h.is_kept;
 }
 
+-- so it does with a later request
+reply_stands : (kept : List KeptRequest) (n : ℕ) (x : KeptRequest) (b : Bool) (reply : Reply) → replied kept n ≡ Some reply → replied (cond b (x ∷ kept) kept) n ≡ Some reply
+reply_stands kept n x true reply e = ap (λ o. option_or o (cond (x.request.number == n) (Some x.reply) None)) e
+reply_stands kept n x false reply e = e
+
+-- the first request of a key
+first_one : (a : List Command) (q : Request) (k j : Key) (place : ℕ) → key_of a q ≡ Some j → key_eq j k ≡ true → length a ≡ place → place_of a k ≡ None → Replied (Charge q ∷ a) k place
+first_one a q k j place w t n none =
+    let x = both (same_session j.session k.session) (j.number == k.number) t in
+    let is : is_of (key_of a q) k.session ≡ true = ap (λ o. is_of o k.session) w ∙ x.0 in
+    let number : (q.number == k.number) ≡ true = ap (λ m. m == k.number) (sym (own_number a q j w)) ∙ x.1 in
+    let nothing : replied (kept_of a k.session) k.number ≡ None = none_under a k none in
+    record {
+      reply = first_reply a q;
+      is_first =
+          ap (λ b. replied (cond b (record { request = q; reply = first_reply a q } ∷ kept_of a k.session) (kept_of a k.session)) k.number) is
+          ∙ (λ i. option_or (nothing i) (cond (number i) (Some (first_reply a q)) None));
+      is_kept = ap (λ b. cond b (Some (Charged (first_reply a q))) (outcome_at a place)) (eq_yes (length a) place n);
+    }
+
 replied_at : (a : List Command) (k : Key) (place : ℕ) → place_of a k ≡ Some place → Replied a k place
 replied_at [] k place e = absurd (cc)
-replied_at (Setup setup ∷ a) k place e = later a (Setup setup) k place (place_within a k place e) refl (replied_at a k place e)
-replied_at (Charge q ∷ a) k place e = by_key (key_of a q) refl e (replied_at a k place)
+replied_at (Setup setup ∷ a) k place e = later a (Setup setup) k place (place_within a k place e) (λ r h. h) (replied_at a k place e)
+replied_at (Charge q ∷ a) k place e = by_place (place_of a k) refl e (replied_at a k place)
   where
-    here : (j : Key) → key_of a q ≡ Some j → key_eq j k ≡ true → length a ≡ place → Replied (Charge q ∷ a) k place
-    here j w t n =
-        let x = both (same_session j.session k.session) (j.number == k.number) t in
-        let is : is_of (key_of a q) k.session ≡ true = ap (λ o. is_of o k.session) w ∙ x.0 in
-        let number : (q.number == k.number) ≡ true = ap (λ m. m == k.number) (sym (own_number a q j w)) ∙ x.1 in
-        record {
-          reply = first_reply a q;
-          is_first =
-              ap (λ b. replied (cond b (record { request = q; reply = first_reply a q } ∷ kept_of a k.session) (kept_of a k.session)) k.number) is
-              ∙ ap (λ b. cond b (Some (first_reply a q)) (replied (kept_of a k.session) k.number)) number;
-          is_kept = ap (λ b. cond b (Some (Charged (first_reply a q))) (outcome_at a place)) (eq_yes (length a) place n);
-        }
+    by_key : (w : Option Key) → key_of a q ≡ w → cond (is_key w k) (Some (length a)) None ≡ Some place → place_of a k ≡ None → Replied (Charge q ∷ a) k place
+    by_key None w f none = absurd (cc)
+    by_key (Some j) w f none = elim (key_eq j k) as (λ b. key_eq j k ≡ b → cond b (Some (length a)) None ≡ Some place → Replied (Charge q ∷ a) k place) [
+      | true ↦ λ t g. first_one a q k j place w t (let z : length a ≡ place = cc in z) none
+      | false ↦ λ t g. absurd (cc)
+    ] refl f
 
-    -- a request with another key is not the one under the number
-    passed : (w : Option Key) → key_of a q ≡ w → is_key w k ≡ false → replied (cond (is_of w k.session) (record { request = q; reply = first_reply a q } ∷ kept_of a k.session) (kept_of a k.session)) k.number ≡ replied (kept_of a k.session) k.number
-    passed None w f = refl
-    passed (Some j) w f = by_session (same_session j.session k.session) refl
-      where
-        by_session : (b : Bool) → same_session j.session k.session ≡ b → replied (cond b (record { request = q; reply = first_reply a q } ∷ kept_of a k.session) (kept_of a k.session)) k.number ≡ replied (kept_of a k.session) k.number
-        by_session true s =
-            let x : (j.number == k.number) ≡ false = sym (ap (λ b. b && j.number == k.number) s) ∙ f in
-            ap (λ b. cond b (Some (first_reply a q)) (replied (kept_of a k.session) k.number)) (ap (λ m. m == k.number) (sym (own_number a q j w)) ∙ x)
-        by_session false s = refl
-
-    by_key : (w : Option Key) → key_of a q ≡ w → cond (is_key w k) (Some (length a)) (place_of a k) ≡ Some place → (place_of a k ≡ Some place → Replied a k place) → Replied (Charge q ∷ a) k place
-    by_key w e f more = by_test (is_key w k) refl f
-      where
-        key_is : (v : Option Key) → is_key v k ≡ true → (j : Key) × (v ≡ Some j) × (key_eq j k ≡ true)
-        key_is None t = absurd (cc)
-        key_is (Some j) t = (j, refl, t)
-
-        by_test : (b : Bool) → is_key w k ≡ b → cond b (Some (length a)) (place_of a k) ≡ Some place → Replied (Charge q ∷ a) k place
-        by_test true t p = let j = key_is w t in here j.0 (e ∙ j.1) j.2 (let z : length a ≡ place = cc in z)
-        by_test false t p = later a (Charge q) k place (place_within a k place p) (ap (λ o. replied (cond (is_of o k.session) (record { request = q; reply = first_reply a q } ∷ kept_of a k.session) (kept_of a k.session)) k.number) e ∙ passed w e t) (more p)
-replied_at (Subscriber supi account barred ∷ a) k place e = later a (Subscriber supi account barred) k place (place_within a k place e) refl (replied_at a k place e)
-replied_at (TopUp id account amount ∷ a) k place e = later a (TopUp id account amount) k place (place_within a k place e) refl (replied_at a k place e)
-replied_at (Expire moment ∷ a) k place e = later a (Expire moment) k place (place_within a k place e) refl (replied_at a k place e)
+    by_place : (o : Option ℕ) → place_of a k ≡ o → option_or o (cond (is_key (key_of a q) k) (Some (length a)) None) ≡ Some place → (place_of a k ≡ Some place → Replied a k place) → Replied (Charge q ∷ a) k place
+    by_place (Some i) p f more =
+        let z : place_of a k ≡ Some place = p ∙ f in
+        later a (Charge q) k place (place_within a k place z) (reply_stands (kept_of a k.session) k.number (record { request = q; reply = first_reply a q }) (is_of (key_of a q) k.session)) (more z)
+    by_place None p f more = by_key (key_of a q) refl f p
+replied_at (Subscriber supi account barred ∷ a) k place e = later a (Subscriber supi account barred) k place (place_within a k place e) (λ r h. h) (replied_at a k place e)
+replied_at (TopUp id account amount ∷ a) k place e = later a (TopUp id account amount) k place (place_within a k place e) (λ r h. h) (replied_at a k place e)
+replied_at (Expire moment ∷ a) k place e = later a (Expire moment) k place (place_within a k place e) (λ r h. h) (replied_at a k place e)
 
 pub first_replies : (commands : List Command) (q : Request) (place : ℕ) → decision commands (Charge q) ≡ Kept place → IsFirstReply commands q place
 first_replies commands q place e =

@@ -1,5 +1,6 @@
 -- In a list of which each command was fresh, no two kept requests of a session have one number.
 use Rattle.std.proofs.Common.{◌≡◌, ◌==◌, ◌&&◌, ℕ, Bool, true, false, cond, List, [], ◌∷◌, length, Option, Some, None, refl, sym, ap, ◌∙◌, subst}
+use Rattle.std.specs.Option.{option_or}
 use Rattle.units.specs.declared.request.Operation.{Operation}
 use Rattle.units.specs.declared.request.Operation.TheVariants.{Create, Update, Release}
 use Rattle.units.specs.declared.request.Request.{Request}
@@ -17,7 +18,7 @@ use Rattle.chf_core.specs.Keys.{key, key_of, key_by, key_in, key_eq, is_key, pla
 use Rattle.chf_core.specs.Money.{first_reply}
 use Rattle.chf_core.specs.Decisions.{decision, at_key}
 use Rattle.chf_core.specs.KeptRequests.{is_of, kept_of, AreFresh}
-use Rattle.chf_core.proofs.Named.{kept_no, same_name, same_number, both}
+use Rattle.chf_core.proofs.Named.{kept_no, same_key, same_name, same_number, both}
 
 -- the number of a request's key is its own
 in_number : (q : Request) (s : Option Session) (k : Key) → key_in q s ≡ Some k → k.number ≡ q.number
@@ -36,22 +37,23 @@ own_number a q k = by_op q.operation
     by_op (Update r) e = in_number q (session_at a r) k e
     by_op (Release r) e = in_number q (session_at a r) k e
 
-no_place : (b : Bool) (n : ℕ) (rest : Option ℕ) → cond b (Some n) rest ≡ None → (b ≡ false) × (rest ≡ None)
-no_place true n rest e = absurd (cc)
-no_place false n rest e = (refl, e)
+no_place : (o : Option ℕ) (b : Bool) (n : ℕ) → option_or o (cond b (Some n) None) ≡ None → (b ≡ false) × (o ≡ None)
+no_place (Some i) b n e = absurd (cc)
+no_place None true n e = absurd (cc)
+no_place None false n e = (refl, refl)
 
 -- where a key has no place, no kept request of its session has its number
-none_under : (a : List Command) (k : Key) → place_of a k ≡ None → reply_under (kept_of a k.session) k.number ≡ None
+pub none_under : (a : List Command) (k : Key) → place_of a k ≡ None → reply_under (kept_of a k.session) k.number ≡ None
 none_under [] k e = refl
 none_under (Setup p ∷ a) k e = none_under a k e
-none_under (Charge q ∷ a) k e = by_key (key_of a q) refl (no_place (is_key (key_of a q) k) (length a) (place_of a k) e).0 (none_under a k (no_place (is_key (key_of a q) k) (length a) (place_of a k) e).1)
+none_under (Charge q ∷ a) k e = by_key (key_of a q) refl (no_place (place_of a k) (is_key (key_of a q) k) (length a) e).0 (none_under a k (no_place (place_of a k) (is_key (key_of a q) k) (length a) e).1)
   where
     by_session : (j : Key) (b : Bool) → key_of a q ≡ Some j → same_session j.session k.session ≡ b → key_eq j k ≡ false → reply_under (kept_of a k.session) k.number ≡ None
         → reply_under (cond b (record { request = q; reply = first_reply a q } ∷ kept_of a k.session) (kept_of a k.session)) k.number ≡ None
     by_session j true w s n i =
         let x : (j.number == k.number) ≡ false = sym (ap (λ b. b && j.number == k.number) s) ∙ n in
         let y : (q.number == k.number) ≡ false = ap (λ m. m == k.number) (sym (own_number a q j w)) ∙ x in
-        ap (λ b. cond b (Some (first_reply a q)) (reply_under (kept_of a k.session) k.number)) y ∙ i
+        λ p. option_or (i p) (cond (y p) (Some (first_reply a q)) None)
     by_session j false w s n i = i
 
     by_key : (w : Option Key) → key_of a q ≡ w → is_key (key_of a q) k ≡ false → reply_under (kept_of a k.session) k.number ≡ None → reply_under (cond (is_of w k.session) (record { request = q; reply = first_reply a q } ∷ kept_of a k.session) (kept_of a k.session)) k.number ≡ None
@@ -68,6 +70,21 @@ fresh_place a q k o w e = by_place (place_of a k) refl
     by_place : (p : Option ℕ) → place_of a k ≡ p → place_of a k ≡ None
     by_place None h = h
     by_place (Some i) h = absurd (kept_no a q k i o h (ap (at_key a q) (sym w) ∙ e))
+
+-- so it is the first of its key
+pub entered_first : (a : List Command) (q : Request) (o : Outcome) → decision a (Charge q) ≡ Fresh o → (k : Key) → cond (is_key (key_of a q) k) (Some (length a)) (place_of a k) ≡ place_of (Charge q ∷ a) k
+entered_first a q o d k = by_key (key_of a q) refl
+  where
+    or_none : (p : Option ℕ) → p ≡ option_or p None
+    or_none None = refl
+    or_none (Some i) = refl
+
+    by_key : (w : Option Key) → key_of a q ≡ w → cond (is_key w k) (Some (length a)) (place_of a k) ≡ option_or (place_of a k) (cond (is_key w k) (Some (length a)) None)
+    by_key None w = or_none (place_of a k)
+    by_key (Some j) w = elim (key_eq j k) as (λ b. key_eq j k ≡ b → cond b (Some (length a)) (place_of a k) ≡ option_or (place_of a k) (cond b (Some (length a)) None)) [
+      | true ↦ λ t. let none : place_of a k ≡ None = ap (place_of a) (sym (same_key j k t)) ∙ fresh_place a q j o w d in sym (ap (λ p. option_or p (Some (length a))) none)
+      | false ↦ λ t. or_none (place_of a k)
+    ] refl
 
 session_same : (j : Key) (n : Name) → same_session j.session n ≡ true → j.session ≡ n
 session_same j n e =

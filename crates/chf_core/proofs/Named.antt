@@ -4,6 +4,7 @@ use Rattle.std.proofs.lemmas.Option.{slice_get_within}
 use Rattle.std.proofs.lemmas.Bool.{cases_eq}
 use Rattle.std.proofs.lemmas.Bool.Decides.{nat_tests}
 use Rattle.std.specs.Cmp.Lexicographic.{bytes_decides}
+use Rattle.std.specs.Option.{option_or}
 use Rattle.units.specs.declared.request.Operation.{Operation}
 use Rattle.units.specs.declared.request.Operation.TheVariants.{Create, Update, Release}
 use Rattle.units.specs.declared.request.Request.{Request}
@@ -132,11 +133,12 @@ key_stays c a q k = by_op q.operation
 pub place_within : (a : List Command) (k : Key) (i : ℕ) → place_of a k ≡ Some i → i < length a
 place_within [] k i e = absurd (cc)
 place_within (Setup p ∷ a) k i e = let h = place_within a k i e in omega arith
-place_within (Charge q ∷ a) k i e = by_test (is_key (key_of a q) k) (place_within a k i) e
+place_within (Charge q ∷ a) k i e = by_place (place_of a k) (is_key (key_of a q) k) (place_within a k i) e
   where
-    by_test : (b : Bool) → (place_of a k ≡ Some i → i < length a) → cond b (Some (length a)) (place_of a k) ≡ Some i → i < suc (length a)
-    by_test true h e = let z : length a ≡ i = cc in omega arith
-    by_test false h e = let z = h e in omega arith
+    by_place : (o : Option ℕ) (b : Bool) → (o ≡ Some i → i < length a) → option_or o (cond b (Some (length a)) None) ≡ Some i → i < suc (length a)
+    by_place (Some j) b h e = let z = h e in omega arith
+    by_place None true h e = let z : length a ≡ i = cc in omega arith
+    by_place None false h e = absurd (cc)
 place_within (Subscriber u n b ∷ a) k i e = let h = place_within a k i e in omega arith
 place_within (TopUp j u x ∷ a) k i e = let h = place_within a k i e in omega arith
 place_within (Expire m ∷ a) k i e = let h = place_within a k i e in omega arith
@@ -164,19 +166,12 @@ kept_no a p k i o e f = by_repeat (is_repeat p (command_at a i)) (ap (at_place a
     by_repeat true e = cc
     by_repeat false e = cc
 
-place_stays : (c : Command) (a : List Command) (k : Key) (i : ℕ) (o : Outcome) → place_of a k ≡ Some i → decision a c ≡ Fresh o → place_of (c ∷ a) k ≡ Some i
-place_stays (Setup p) a k i o e f = e
-place_stays (Charge p) a k i o e f = by_key (key_of a p) refl
-  where
-    by_key : (w : Option Key) → key_of a p ≡ w → cond (is_key w k) (Some (length a)) (place_of a k) ≡ Some i
-    by_key None w = e
-    by_key (Some j) w = elim (key_eq j k) as (λ b. key_eq j k ≡ b → cond b (Some (length a)) (place_of a k) ≡ Some i) [
-      | true ↦ λ t. absurd (kept_no a p j i o (ap (place_of a) (same_key j k t) ∙ e) (ap (at_key a p) (sym w) ∙ f))
-      | false ↦ λ t. e
-    ] refl
-place_stays (Subscriber u n b) a k i o e f = e
-place_stays (TopUp j u x) a k i o e f = e
-place_stays (Expire m) a k i o e f = e
+place_stays : (c : Command) (a : List Command) (k : Key) (i : ℕ) → place_of a k ≡ Some i → place_of (c ∷ a) k ≡ Some i
+place_stays (Setup p) a k i e = e
+place_stays (Charge p) a k i e = ap (λ o. option_or o (cond (is_key (key_of a p) k) (Some (length a)) None)) e
+place_stays (Subscriber u n b) a k i e = e
+place_stays (TopUp j u x) a k i e = e
+place_stays (Expire m) a k i e = e
 
 -- what a repeat finds
 pub record Found (a : List Command) (q : Request) (i : ℕ) : Type 0 where
@@ -188,13 +183,13 @@ pub record Found (a : List Command) (q : Request) (i : ℕ) : Type 0 where
 found_again : (a : List Command) (q : Request) (i : ℕ) → Found a q i → decision a (Charge q) ≡ Kept i
 found_again a q i f = ap (at_key a q) f.has ∙ ap (at_place a q (named_by q.operation a q)) f.stands ∙ ap (at_kept i (last_of (named_by q.operation a q))) f.same
 
-found_longer : (c : Command) (a : List Command) (q : Request) (i : ℕ) (o : Outcome) → decision a c ≡ Fresh o → Found a q i → Found (c ∷ a) q i
-found_longer c a q i o d f =
+found_longer : (c : Command) (a : List Command) (q : Request) (i : ℕ) → Found a q i → Found (c ∷ a) q i
+found_longer c a q i f =
     let lt = place_within a f.k i f.stands in
     record {
       k = f.k;
       has = key_stays c a q f.k f.has;
-      stands = place_stays c a f.k i o f.stands d;
+      stands = place_stays c a f.k i f.stands;
       same = ap (is_repeat q) (ap (λ b. cond b (Some c) (command_at a i)) (eq_no (length a) i (omega arith))) ∙ f.same;
     }
 
@@ -230,5 +225,5 @@ found_from a q i = by_key (key_of a q) refl
     by_key (Some k) w e = by_place k (place_of a k) w refl e
 
 -- a kept request is kept at its place for good
-pub kept_longer : (a : List Command) (c : Command) (o : Outcome) (q : Request) (i : ℕ) → decision a c ≡ Fresh o → decision a (Charge q) ≡ Kept i → decision (c ∷ a) (Charge q) ≡ Kept i
-kept_longer a c o q i d e = found_again (c ∷ a) q i (found_longer c a q i o d (found_from a q i e))
+pub kept_longer : (a : List Command) (c : Command) (q : Request) (i : ℕ) → decision a (Charge q) ≡ Kept i → decision (c ∷ a) (Charge q) ≡ Kept i
+kept_longer a c q i e = found_again (c ∷ a) q i (found_longer c a q i (found_from a q i e))

@@ -15,10 +15,9 @@ use Rattle.rating.specs.Price.{price}
 use Rattle.accounts.specs.declared.reservation.Key.{Key as Pair}
 use Rattle.accounts.specs.declared.reservation.Reservation.{Reservation}
 use Rattle.accounts.specs.Reservations.{ReservationMap, at, key_cmp, keys_total}
-use Rattle.accounts.specs.Endings.{Ending, Session as OfSession, Until, ends, without}
+use Rattle.accounts.specs.Endings.{Ending, Session as OfSession, Until, ends, without, without_at}
 use Rattle.accounts.specs.Ledger.{State, free}
 use Rattle.accounts.specs.Moves.{after, lessened, lessened_at, Charged, Released}
-use Rattle.accounts.proofs.Tables.{stays}
 use Rattle.chf_core.specs.declared.session.Session.{Session}
 use Rattle.chf_core.specs.declared.target.Target.{Target}
 use Rattle.chf_core.specs.declared.target.GroupAsk.{GroupAsk}
@@ -70,7 +69,7 @@ owned_lessened ss m k x own = by_case (map.get m k) (own k)
     ]
 
 owned_without : (ss : List Session) (m : ReservationMap) (g : Ending) → AreOwned ss m → AreOwned ss (without m g)
-owned_without ss m g own q = subst (λ v. IfSome v (λ r. account_in ss q.session ≡ Some r.account)) (sym (stays m g q))
+owned_without ss m g own q = subst (λ v. IfSome v (λ r. account_in ss q.session ≡ Some r.account)) (sym (without_at m g q))
     (either (not (ends g q (map.get m q))) (map.get m q) None (λ r. account_in ss q.session ≡ Some r.account) (own q) tt)
 
 module _ (ss : List Session) (t : Target) (e : account_in ss t.session ≡ Some t.account) where

@@ -1,5 +1,6 @@
 -- The keys of charging data requests, and their places in a list of commands, the newest first (TS 32.290, 5.3.2; the key is this product's own).
 use Rattle.std.specs.Prelude.{ℕ, ◌==◌, ◌&&◌, Bool, false, cond, if◌then◌else◌, List, [], ◌∷◌, length, Option, Some, None}
+use Rattle.std.specs.Option.{option_or}
 use Rattle.units.specs.declared.request.Operation.{Operation}
 use Rattle.units.specs.declared.request.Operation.TheVariants.{Create, Update, Release}
 use Rattle.units.specs.declared.request.Request.{Request}
@@ -35,11 +36,11 @@ abbrev pub is_key : Option Key → Key → Bool
 is_key None k = false
 is_key (Some j) k = key_eq j k
 
--- the place of the request with a key: how many commands were before it
+-- the place of the first request with a key: how many commands were before it
 abbrev pub place_of : List Command → Key → Option ℕ
 place_of [] k = None
 place_of (Setup setup ∷ before) k = place_of before k
-place_of (Charge q ∷ before) k = cond (is_key (key_of before q) k) (Some (length before)) (place_of before k)
+place_of (Charge q ∷ before) k = option_or (place_of before k) (cond (is_key (key_of before q) k) (Some (length before)) None)
 place_of (Subscriber supi account barred ∷ before) k = place_of before k
 place_of (TopUp id account amount ∷ before) k = place_of before k
 place_of (Expire moment ∷ before) k = place_of before k

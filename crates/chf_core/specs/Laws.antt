@@ -16,7 +16,6 @@ FirstOutcomes = (later before : List Command) (c : Command) → outcome_at (late
 abbrev pub FreshAreKept : Type 0
 FreshAreKept = (commands : List Command) (c : Command) (o : Outcome) → decision commands c ≡ Fresh o → o ≡ outcome_of commands c
 
--- A request that is kept stays kept at its place, whatever fresh command comes.
+-- A request that is kept stays kept at its place, whatever command comes.
 abbrev pub KeptForGood : Type 0
-KeptForGood = (commands : List Command) (c : Command) (o : Outcome) (q : Request) (place : ℕ)
-    → decision commands c ≡ Fresh o → decision commands (Charge q) ≡ Kept place → decision (c ∷ commands) (Charge q) ≡ Kept place
+KeptForGood = (commands : List Command) (c : Command) (q : Request) (place : ℕ) → decision commands (Charge q) ≡ Kept place → decision (c ∷ commands) (Charge q) ≡ Kept place

@@ -1,7 +1,9 @@
-ghost use Rattle.std.specs.Prelude.{◌≡◌, ◌∷◌, [], IfOk, slice_get, option_copied, option_map, length};
+//! The machine: it decides on a command, and commits what is fresh.
+ghost use Rattle.std.specs.Prelude.{◌≡◌, ◌∷◌, [], IfOk, OnErr, slice_get, option_copied, option_map, length};
 ghost use Rattle.accounts.specs.Deadlines.{IsLeast};
 ghost use Rattle.chf_core.specs.Operator.{account_names, setup_of};
 ghost use Rattle.chf_core.specs.Sessions.{reference_of, name};
+ghost use Rattle.chf_core.specs.Decisions.{MayWantMemory};
 ghost use Rattle.chf_core.specs.Money.{money};
 ghost use Rattle.chf_core.specs.Outcomes.{outcome_at};
 ghost use Rattle.chf_core.specs.Machine.{account_name, Answers, IsReady};
@@ -62,10 +64,11 @@ impl Chf {
     }
 
     /// What is decided on a command; where it is fresh, with a plan that owns all that its commit needs. Nothing that is seen changes. Want of
-    /// memory is answered too where the numbers or sums of the list would not fit their types.
+    /// memory is answered only on a fresh command or where the list is full, and too where the sums of an account would not fit their types.
     pub fn decide(&mut self, alloc: Global, command: &Command) -> Result<Decision, OutOfMemory>
         ensures same { self.new.list ≡ self.old.list }
         ensures answer { IfOk result (Answers self.new command.now) }
+        ensures memory { OnErr result (MayWantMemory self.old.list command.now) }
     {
         if self.commands.len() >= 4_294_967_295 {
             return Err(OutOfMemory);

@@ -1,3 +1,4 @@
+//! Commands, and what they come to.
 use crate::setup::ChfSetup;
 use units::{List, Moment, Plain, Reply, Request, Text};
 

@@ -1,3 +1,4 @@
+//! Decisions, and the plans of fresh commands.
 ghost use Rattle.std.specs.Prelude.{◌≡◌, [], None};
 
 use crate::command::{Command, Outcome};

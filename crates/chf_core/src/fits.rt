@@ -1,5 +1,5 @@
 //! Whether the amounts of a command fit their types.
-ghost use Rattle.std.specs.Prelude.{◌≡◌, ◌<◌, ◌-◌, ◌+◌, ◌^◌, IfSome, IsTrue, length};
+ghost use Rattle.std.specs.Prelude.{◌≡◌, ◌<◌, ◌-◌, ◌+◌, ◌^◌, ◌↔◌, IsTrue, SomeIff, length};
 ghost use Rattle.chf_core.specs.Admits.{cost_used, cost, containers};
 ghost use Rattle.chf_core.specs.Machine.{CanCharge, CanTopUp};
 
@@ -7,9 +7,9 @@ use accounts::Accounts;
 use rating::Tariffs;
 use units::{UnitUsage, Used};
 
-// What the containers of an entry cost.
+// What the containers of an entry cost, where that fits.
 fn cost_used(tariffs: &Tariffs, group: u32, used: &[Used]) -> Option<u128>
-    ensures { IfSome result (λ x. x ≡ cost_used tariffs.now group used.now) }
+    ensures { SomeIff result (cost_used tariffs.now group used.now < 2 ^ 128) (cost_used tariffs.now group used.now) }
 {
     let mut total: u128 = 0;
     for c in used {
@@ -18,9 +18,9 @@ fn cost_used(tariffs: &Tariffs, group: u32, used: &[Used]) -> Option<u128>
     Some(total)
 }
 
-/// What the containers of a request cost.
+/// What the containers of a request cost, where that fits.
 pub fn cost(tariffs: &Tariffs, usage: &[UnitUsage]) -> Option<u128>
-    ensures { IfSome result (λ x. x ≡ cost tariffs.now usage.now) }
+    ensures { SomeIff result (cost tariffs.now usage.now < 2 ^ 128) (cost tariffs.now usage.now) }
 {
     let mut total: u128 = 0;
     for entry in usage {
@@ -29,9 +29,9 @@ pub fn cost(tariffs: &Tariffs, usage: &[UnitUsage]) -> Option<u128>
     Some(total)
 }
 
-/// How many containers a request has.
+/// How many containers a request has, where that fits.
 pub fn containers(usage: &[UnitUsage]) -> Option<usize>
-    ensures { IfSome result (λ x. x ≡ containers usage.now) }
+    ensures { SomeIff result (containers usage.now < 2 ^ 64) (containers usage.now) }
 {
     let mut total: usize = 0;
     for entry in usage {
@@ -42,7 +42,7 @@ pub fn containers(usage: &[UnitUsage]) -> Option<usize>
 
 /// Whether the account is there, and so much more can be charged to it.
 pub fn may_charge(accounts: &Accounts, account: u32, cost: u128) -> bool
-    ensures { IsTrue result → CanCharge accounts.now.state account cost }
+    ensures { IsTrue result ↔ CanCharge accounts.now.state account cost }
 {
     let (Some(taken), Some(owed)) = (accounts.taken(account), accounts.owed(account)) else {
         return false;
@@ -58,7 +58,7 @@ pub fn may_charge(accounts: &Accounts, account: u32, cost: u128) -> bool
 
 /// Whether the account is there, and so much more can be topped up on it.
 pub fn may_topup(accounts: &Accounts, account: u32, amount: u128) -> bool
-    ensures { IsTrue result → CanTopUp accounts.now.state account amount }
+    ensures { IsTrue result ↔ CanTopUp accounts.now.state account amount }
 {
     match accounts.topups(account) {
         Some(topups) => topups.checked_add(amount).is_some(),
@@ -68,7 +68,7 @@ pub fn may_topup(accounts: &Accounts, account: u32, amount: u128) -> bool
 
 /// Whether one more account can have a number.
 pub fn may_add(accounts: &Accounts) -> bool
-    ensures { IsTrue result → length accounts.now.state.accounts < 2 ^ 32 - 1 }
+    ensures { IsTrue result ↔ (length accounts.now.state.accounts < 2 ^ 32 - 1) }
 {
     accounts.taken(4_294_967_294).is_none()
 }

@@ -1,3 +1,4 @@
+//! The keys of sessions and requests.
 use units::Text;
 
 /// What tells sessions apart: the consumer and the charging id.

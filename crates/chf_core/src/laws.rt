@@ -7,7 +7,7 @@ ghost use Rattle.chf_core.specs.Bounds.{SumsAreBounded};
 ghost use Rattle.chf_core.specs.Verdicts.{VerdictsSuitCommands};
 
 /// A law of all lists of commands; it does nothing. The outcome at a place is the one that its command has from the commands before it; a
-/// request that is kept stays kept at its place, whatever fresh command comes (TS 32.290, 5.3.2; this product's own).
+/// request that is kept stays kept at its place, whatever command comes (TS 32.290, 5.3.2; this product's own).
 pub fn replies_stand()
     ensures first { FirstOutcomes }
     ensures fresh { FreshAreKept }

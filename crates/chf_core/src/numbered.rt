@@ -1,3 +1,4 @@
+//! The same keys with a number in place of the consumer.
 /// What tells sessions apart, by the number of the consumer.
 #[derive(Clone, Copy, PartialEq, Eq, Hash, Debug)]
 pub(crate) struct NumberedName {

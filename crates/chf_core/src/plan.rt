@@ -1,5 +1,5 @@
 //! What a fresh command's plan owns: copies and room, made before the commit.
-ghost use Rattle.std.specs.Prelude.{◌≡◌, ◌<◌, ◌≤◌, ◌-◌, ◌^◌, IfOk, OnOk, IsTrue, IfSome, length};
+ghost use Rattle.std.specs.Prelude.{◌≡◌, ◌<◌, ◌≤◌, ◌-◌, ◌^◌, ◌↔◌, IfOk, OnOk, IsTrue, SomeIff, length};
 ghost use Rattle.chf_core.specs.Operator.{account_names, account_number, number_in};
 ghost use Rattle.chf_core.specs.Sessions.{account_for, supi_of};
 ghost use Rattle.chf_core.specs.Decisions.{decision};
@@ -74,10 +74,10 @@ fn session_opened(
 }
 
 impl Chf {
-    // How many moves of money a command may make that need a place.
+    // How many moves of money a command may make that need a place, where that fits.
     fn moves_of(&self, command: &Command, copies: &Copies) -> Option<usize>
         requires { AreCopied self.now.list command.now copies.now }
-        ensures { IfSome result (λ n. n ≡ moves_of command.now) }
+        ensures { SomeIff result (moves_of command.now < 2 ^ 64) (moves_of command.now) }
     {
         match command {
             Command::Charge { request } => {
@@ -91,7 +91,7 @@ impl Chf {
     // Whether the sums of the account that a command changes fit their types.
     fn fits(&self, command: &Command) -> bool
         requires { length self.now.list < 2 ^ 32 - 1 }
-        ensures { IsTrue result → Fits self.now.list command.now }
+        ensures { IsTrue result ↔ Fits self.now.list command.now }
     {
         match command {
             Command::Charge { request } => self.charge_fits(request),
@@ -110,7 +110,7 @@ impl Chf {
 
     fn charge_fits(&self, request: &Request) -> bool
         requires { length self.now.list < 2 ^ 32 - 1 }
-        ensures { IsTrue result → Fits self.now.list (Command.Charge request.now) }
+        ensures { IsTrue result ↔ Fits self.now.list (Command.Charge request.now) }
     {
         match self.target_of(request) {
             Some(t) => match cost(self.tariffs_now(), request.usage.as_slice()) {

@@ -1,3 +1,4 @@
+//! Why a command is refused.
 /// Why a command is refused (this product's own; causes of charging data requests after TS 32.291, 6.1.7).
 #[derive(Clone, Copy, PartialEq, Eq, Debug)]
 pub enum ChfRefusal {

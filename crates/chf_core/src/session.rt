@@ -1,3 +1,4 @@
+//! What is kept of a session.
 use units::Text;
 
 /// A charging session: its consumer and charging id, the subscriber and account of its Create, its last accepted number, and whether no

@@ -1,3 +1,4 @@
+//! The setup.
 use rating::Tariffs;
 use units::Plain;
 

@@ -1,3 +1,4 @@
+//! What is kept of a subscriber row and of a top-up.
 use units::{List, Text};
 
 /// A subscriber: the name of its account and the rating groups that are barred.

@@ -1,3 +1,4 @@
+//! Whom a request charges, and what it asks for.
 use units::Ask;
 
 /// Whom a request charges: an account, for the session with a reference.

@@ -1,11 +1,11 @@
 //! What is decided on a command.
-ghost use Rattle.std.specs.Prelude.{◌≡◌, ◌<◌, ◌-◌, ◌^◌, IfOk, length, option_copied, option_map, not, ◌==◌};
+ghost use Rattle.std.specs.Prelude.{◌≡◌, ◌<◌, ◌-◌, ◌^◌, IfOk, OnErr, true, length, option_copied, option_map, not, ◌==◌};
 ghost use Rattle.accounts.specs.Endings.{count_ending, Until};
 ghost use Rattle.chf_core.specs.Operator.{account_number, topup_of, subscription_of};
 ghost use Rattle.chf_core.specs.Sessions.{named_by};
 ghost use Rattle.chf_core.specs.Keys.{key, key_of, place_of};
 ghost use Rattle.chf_core.specs.Money.{money};
-ghost use Rattle.chf_core.specs.Decisions.{decision, at_key, at_place, at_new, at_new_create, at_new_later, fresh_charge, last_of, same_row, decide_subscriber, decide_again, decide_topup, decide_expire};
+ghost use Rattle.chf_core.specs.Decisions.{decision, at_key, at_place, at_new, at_new_create, at_new_later, fresh_charge, is_fresh, last_of, same_row, decide_subscriber, decide_again, decide_topup, decide_expire};
 
 use crate::chf::Chf;
 use crate::command::{Command, Outcome};
@@ -103,7 +103,8 @@ impl Chf {
         session: Option<&Session>,
     ) -> Result<Verdict, OutOfMemory>
         requires { length self.now.list < 2 ^ 32 - 1 }
-        ensures { IfOk result (λ v. v ≡ at_new_later self.now.list request.now (option_copied session.entry)) }
+        ensures value { IfOk result (λ v. v ≡ at_new_later self.now.list request.now (option_copied session.entry)) }
+        ensures memory { OnErr result (is_fresh (at_new_later self.now.list request.now (option_copied session.entry)) ≡ true) }
     {
         match session {
             Some(s) => if request.number <= s.last {
@@ -130,7 +131,8 @@ impl Chf {
         session: Option<&Session>,
     ) -> Result<Verdict, OutOfMemory>
         requires { length self.now.list < 2 ^ 32 - 1 }
-        ensures { IfOk result (λ v. v ≡ at_new_create self.now.list request.now (option_copied session.entry)) }
+        ensures value { IfOk result (λ v. v ≡ at_new_create self.now.list request.now (option_copied session.entry)) }
+        ensures memory { OnErr result (is_fresh (at_new_create self.now.list request.now (option_copied session.entry)) ≡ true) }
     {
         match session {
             Some(_) => Ok(Verdict::Refused {
@@ -147,7 +149,8 @@ impl Chf {
         session: Option<&Session>,
     ) -> Result<Verdict, OutOfMemory>
         requires { length self.now.list < 2 ^ 32 - 1 }
-        ensures { IfOk result (λ v. v ≡ at_new request.now.operation self.now.list request.now (option_copied session.entry)) }
+        ensures value { IfOk result (λ v. v ≡ at_new request.now.operation self.now.list request.now (option_copied session.entry)) }
+        ensures memory { OnErr result (is_fresh (at_new request.now.operation self.now.list request.now (option_copied session.entry)) ≡ true) }
     {
         match request.operation {
             Operation::Create => self.at_new_create(alloc, request, session),
@@ -163,7 +166,8 @@ impl Chf {
         place: Option<u32>,
     ) -> Result<Verdict, OutOfMemory>
         requires { length self.now.list < 2 ^ 32 - 1 }
-        ensures { IfOk result (λ v. v ≡ at_place self.now.list request.now (named_by request.now.operation self.now.list request.now) place) }
+        ensures value { IfOk result (λ v. v ≡ at_place self.now.list request.now (named_by request.now.operation self.now.list request.now) place) }
+        ensures memory { OnErr result (is_fresh (at_place self.now.list request.now (named_by request.now.operation self.now.list request.now) place) ≡ true) }
     {
         let session = self.named(request);
         match place {
@@ -182,7 +186,8 @@ impl Chf {
 
     fn decide_charge(&self, alloc: Global, request: &Request) -> Result<Verdict, OutOfMemory>
         requires { length self.now.list < 2 ^ 32 - 1 }
-        ensures { IfOk result (λ v. v ≡ at_key self.now.list request.now (key_of self.now.list request.now)) }
+        ensures value { IfOk result (λ v. v ≡ at_key self.now.list request.now (key_of self.now.list request.now)) }
+        ensures memory { OnErr result (is_fresh (at_key self.now.list request.now (key_of self.now.list request.now)) ≡ true) }
     {
         match self.key_id(request) {
             Some(id) => self.at_place(alloc, request, self.place_of(request, id)),
@@ -195,7 +200,8 @@ impl Chf {
     /// The decision on a command, before any room is made for it.
     pub(crate) fn verdict(&self, alloc: Global, command: &Command) -> Result<Verdict, OutOfMemory>
         requires { length self.now.list < 2 ^ 32 - 1 }
-        ensures { IfOk result (λ v. v ≡ decision self.now.list command.now) }
+        ensures value { IfOk result (λ v. v ≡ decision self.now.list command.now) }
+        ensures memory { OnErr result (is_fresh (decision self.now.list command.now) ≡ true) }
     {
         match command {
             Command::Setup { .. } => Ok(Verdict::Fresh {

@@ -1,25 +1,21 @@
 -- Laws of kept requests, by induction on the later ones.
-use Rattle.std.proofs.Common.{◌≡◌, ◌≢◌, ℕ, ◌+◌, ◌==◌, Bool, true, false, cond, List, [], ◌∷◌, ◌++◌, Some, None, refl, sym, ap, ◌∙◌, arith, ⊎_elim}
-use Rattle.std.proofs.lemmas.Bool.{cases_eq}
+use Rattle.std.proofs.Common.{◌≡◌, ℕ, ◌+◌, ◌==◌, Bool, true, false, cond, List, [], ◌∷◌, ◌++◌, Some, None, ap, ◌∙◌, arith}
 use Rattle.std.proofs.lemmas.Bool.Decides.{nat_tests}
+use Rattle.std.specs.Option.{option_or}
 use Rattle.units.specs.declared.reply.Reply.{Reply}
-use Rattle.sessions.specs.Kept.{Kept, is_success, first_reply, AreKeyed, accepted, uses, times}
+use Rattle.sessions.specs.Kept.{Kept, is_success, first_reply, accepted, uses, times}
 
-eq_yes : (a b : ℕ) → a ≡ b → (a == b) ≡ true
-eq_yes a b e = grind (arith, nat_tests)
+pub first_stands : (later earlier : List Kept) (n : ℕ) (r : Reply) → first_reply earlier n ≡ Some r → first_reply (later ++ earlier) n ≡ Some r
+first_stands [] earlier n r e = e
+first_stands (x ∷ later) earlier n r e = ap (λ o. option_or o (cond (x.request.number == n) (Some x.reply) None)) (first_stands later earlier n r e)
 
--- a later request under this number would have found it
-no_later : (x : Kept) (l : List Kept) (n : ℕ) (r : Reply) → first_reply l x.request.number ≡ None → first_reply l n ≡ Some r → (x.request.number == n) ≡ false
-no_later x l n r a b = ⊎_elim
-    (λ (e : x.request.number ≡ n). absurd (let h : None ≡ Some r = sym a ∙ ap (first_reply l) e ∙ b in cc))
-    (λ (ne : x.request.number ≢ n). grind (arith, nat_tests))
-    (cases_eq x.request.number n)
+same_is : (n : ℕ) → (n == n) ≡ true
+same_is n = grind (arith, nat_tests)
 
-pub first_stands : (later earlier : List Kept) (k : Kept) → AreKeyed (later ++ k ∷ earlier) → first_reply (later ++ k ∷ earlier) k.request.number ≡ Some k.reply
-first_stands [] earlier k h = ap (λ b. cond b (Some k.reply) (first_reply earlier k.request.number)) (eq_yes k.request.number k.request.number refl)
-first_stands (x ∷ later) earlier k h =
-    let i = first_stands later earlier k h.1 in
-    ap (λ b. cond b (Some x.reply) (first_reply (later ++ k ∷ earlier) k.request.number)) (no_later x (later ++ k ∷ earlier) k.request.number k.reply h.0 i) ∙ i
+pub new_is_first : (later earlier : List Kept) (k : Kept) → first_reply earlier k.request.number ≡ None → first_reply (later ++ k ∷ earlier) k.request.number ≡ Some k.reply
+new_is_first later earlier k none =
+    first_stands later (k ∷ earlier) k.request.number k.reply
+    (ap (λ o. option_or o (cond (k.request.number == k.request.number) (Some k.reply) None)) none ∙ ap (λ b. cond b (Some k.reply) None) (same_is k.request.number))
 
 pub times_add : (later earlier : List Kept) (lsn : ℕ) → times (later ++ earlier) lsn ≡ times later lsn + times earlier lsn
 times_add [] earlier lsn = omega arith

@@ -1,3 +1,4 @@
+//! Whether two requests have the same content.
 ghost use Rattle.std.specs.Prelude.{◌≡◌, ◌↔◌, IsTrue};
 ghost use Rattle.sessions.specs.Content.{same_content, same_name, same_body, content};
 

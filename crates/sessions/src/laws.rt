@@ -1,10 +1,11 @@
 //! What holds of all lists of kept requests.
-ghost use Rattle.sessions.specs.Kept.{FirstRepliesStand, TimesAddUp};
+ghost use Rattle.sessions.specs.Kept.{FirstRepliesStand, NewRepliesAreFirst, TimesAddUp};
 
-/// A law of kept requests; it does nothing. Where no two have one number, the first reply under a request's number is the one that was
-/// kept with it (TS 32.290, 5.3.2).
+/// A law of kept requests; it does nothing. The first reply under a number stands, whatever is kept later; it is the one that was kept
+/// with the first request of that number (TS 32.290, 5.3.2).
 pub fn first_replies_stand()
-    ensures { FirstRepliesStand }
+    ensures stand { FirstRepliesStand }
+    ensures new { NewRepliesAreFirst }
 {}
 
 /// A law of kept requests; it does nothing. How often a container stands in accepted requests is the sum of how often it stands in the

@@ -17,6 +17,7 @@ use Rattle.chf_core.specs.Caches.{machine}
 use Rattle.chf_core.specs.KeyTable.{kept_place, kept_reference}
 use Rattle.chf_core.proofs.Few.{few_sessions}
 use Rattle.chf_core.proofs.Kept.{kept_more}
+use Rattle.chf_core.proofs.Keyed.{entered_first}
 use Rattle.chf_core.proofs.Charging.{opened_one, supi_is, can_admit}
 use Rattle.chf_core.proofs.chf.Chf.commit_charge.Goals as goal
 
@@ -51,7 +52,7 @@ invariant_of-self c =
     (kept_more t.commands.items (Charge q) t.outcomes.items c.args.outcome t.operator c.enter_key.new.keyed c.enter_session.new.sessions.items c.use_accounts.new.accounts k.told_are ready.fresh (omega (arith, ready.places))
     (record { setup = k.operator.setup; none = k.operator.none; names = k.operator.names; subscribers = k.operator.subscribers; topups = k.operator.topups })
     (record {
-      places = λ j. c.enter_key.ensures.places j ∙ (λ i. cond (is_key (sym own i) j) (Some (place i)) (k.keyed.places j i));
+      places = λ j. c.enter_key.ensures.places j ∙ (λ i. cond (is_key (sym own i) j) (Some (place i)) (k.keyed.places j i)) ∙ entered_first a q c.args.outcome ready.fresh j;
       references = λ n. c.enter_key.ensures.references n
           ∙ (λ i. cond (is_some (reference i) && same_session (name q.consumer (id_of q.charging_id)) n) (reference i) (k.keyed.references n i))
           ∙ opened_one q.operation q (account_for a q.subscriber) (length (sessions a) + 1) (same_session (name q.consumer (id_of q.charging_id)) n) _;

@@ -1,0 +1,11 @@
+use Rattle.std.proofs.Common.{◌≡◌, ℕ, ◌%◌, ◌==◌, Bool, refl, sym, subst}
+use Rattle.accounts.specs.declared.reservation.Key.{Key}
+use Rattle.accounts.specs.Moves.{Expired}
+use Rattle.accounts.specs.Steps.{AreOwned}
+use Rattle.accounts.proofs.tests.release_until.Goals as goal
+
+abbrev owner : Key → ℕ → Bool
+owner = λ k a. k.session % 4 == a
+
+pub returns-clause-owned : goal.returns-clause-owned
+returns-clause-owned c = subst (AreOwned owner) (sym c.release_until.ensures.state) (c.reservations_stay.ensures.owners owner c.args.accounts.now.state (Expired c.args.until) c.requires refl)
