@@ -76,7 +76,7 @@ impl<'a> TlvRef<'a> {
                 Ok(primitive(&tag, List::from_vec(contents)))
             }
             BodyRef::Constructed(inner) => {
-                let mut copies = Vec::new(alloc);
+                let mut copies = Vec::with_capacity(alloc, inner.as_slice().len())?;
                 for child in inner.as_slice() {
                     copies.push(child.to_tlv(alloc)?)?;
                 }

@@ -8,7 +8,7 @@ use Rattle.csv.specs.declared.parser.Action.{Action}
 use Rattle.csv.specs.declared.parser.Action.TheVariants as act
 use Rattle.csv.specs.Machine.{Read, next_record, step, is_end, fields_after, field_after, ends_at_end}
 use Rattle.csv.specs.Reading.{default_config, strip_bom}
-use Rattle.chf_rows.specs.Pieces.{pieces, joined_front}
+use Rattle.rows.specs.Pieces.{pieces, joined_front}
 use Rattle.charging.specs.Items.{rows_in}
 use Rattle.charging.specs.PlainRows.{is_plain_byte, is_plain}
 use Rattle.charging.proofs.OneRow.{one_row}

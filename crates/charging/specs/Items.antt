@@ -3,7 +3,7 @@ use Rattle.std.specs.Prelude.{ℕ, ◌+◌, ◌&&◌, nat_lt, nat_le, bytes_eq, 
 use Rattle.std.specs.Str.{is_utf8}
 use Rattle.std.specs.List.{list_all}
 use Rattle.csv.specs.Reading.{default_config, records, strip_bom}
-use Rattle.chf_rows.specs.Pieces.{piece_length, pieces}
+use Rattle.rows.specs.Pieces.{piece_length, pieces}
 use Rattle.charging.specs.declared.item.Method.{Method}
 use Rattle.charging.specs.declared.item.Method.TheVariants.{Post, Put, Delete}
 use Rattle.charging.specs.declared.item.Item.{Item}

@@ -13,7 +13,7 @@ use Rattle.units.specs.declared.request.Operation.TheVariants.{Create, Update, R
 use Rattle.units.specs.declared.request.Request.{Request}
 use Rattle.charging_json.specs.Cause.{cause_of}
 use Rattle.charging_json.specs.Request.{request_in}
-use Rattle.chf_rows.specs.Pieces.{piece_length}
+use Rattle.rows.specs.Pieces.{piece_length}
 use Rattle.charging.specs.declared.item.Method.{Method}
 use Rattle.charging.specs.declared.item.Method.TheVariants.{Post, Put, Delete}
 use Rattle.charging.specs.AccountLines.{or_zero}

@@ -3,7 +3,7 @@ ghost use Rattle.charging.specs.Items.{answer_items, begins_with, line_by, line_
 
 use crate::item::{Item, Method};
 use crate::row_items::{as_text, only_row};
-use chf_rows::piece_length;
+use rows::piece_length;
 use std::alloc::{AllocError, Global};
 use units::{List, OutOfMemory};
 

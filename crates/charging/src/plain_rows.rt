@@ -1,13 +1,13 @@
 //! Lines that are one row at sight, which need no reader of rows.
 ghost use Rattle.std.specs.Prelude.{◌≡◌, IfOk};
 ghost use Rattle.std.specs.List.{list_all};
-ghost use Rattle.chf_rows.specs.Pieces.{pieces};
+ghost use Rattle.rows.specs.Pieces.{pieces};
 ghost use Rattle.charging.specs.Items.{row_item};
 ghost use Rattle.charging.specs.PlainRows.{is_plain_byte, is_plain};
 
 use crate::item::Item;
 use crate::row_items::as_text;
-use chf_rows::piece_length;
+use rows::piece_length;
 use std::alloc::Global;
 use units::{List, OutOfMemory};
 

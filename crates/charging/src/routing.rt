@@ -6,10 +6,11 @@ ghost use Rattle.charging.specs.Routing.{below, body_problem, by_method, by_oper
 use crate::item::Method;
 use crate::line_items::after_word;
 use charging_json::{cause_of, read_request};
-use chf_rows::piece_length;
-use rows::number;
+use rows::{number, piece_length};
 use std::alloc::{AllocError, Global};
-use units::{Cause, JsonRefusal, Operation, OutOfMemory, Problem, Reply, Request, Text, copy, name_of_cause};
+use units::{
+    Cause, JsonRefusal, Operation, OutOfMemory, Problem, Reply, Request, Text, copy, name_of_cause,
+};
 
 /// Problem details without a detail.
 pub fn problem(alloc: Global, status: u16, cause: Cause) -> Result<Reply, AllocError>

@@ -112,13 +112,13 @@ pub fn charging<S: Source, K: Sink>(
     ensures ok { (result ≡ Status.Ok) → IfSome (task_of words.now) (λ task. IfSome (S.left input.old) (λ bytes.
         (text : List ℕ) × Prints task bytes text × Appends (K.written output.old) (K.written output.new) text)) }
 
-    // Each other status has its cause. At WriteFault a part of what the command prints is written.
+    // Each other status has its cause. At WriteFault a part of what the command prints is written, and not the whole.
     ensures bad_input { (row : ℕ) → (result ≡ Status.BadInput row) → IfSome (task_of words.now) (λ task. IfSome (S.left input.old) (λ bytes. Refuses task bytes row)) }
     ensures read_fault { (result ≡ Status.ReadFault) → CountRose (S.faults input.old) (S.faults input.new) }
     ensures too_long { (result ≡ Status.InputTooLong) → IfSome (S.left input.old) (λ bytes. 2 ^ 28 < length bytes) }
     ensures write_fault { (result ≡ Status.WriteFault) → CountRose (K.faults output.old) (K.faults output.new) }
     ensures part { (result ≡ Status.WriteFault) → IfSome (task_of words.now) (λ task. IfSome (S.left input.old) (λ bytes.
-        (text : List ℕ) × Prints task bytes text × (n : ℕ) × Appends (K.written output.old) (K.written output.new) (take n text))) }
+        (text : List ℕ) × Prints task bytes text × (n : ℕ) × (n < length text) × Appends (K.written output.old) (K.written output.new) (take n text))) }
 
     // Every status but Ok and WriteFault prints its line alone.
     ensures line { (result ≢ Status.Ok) → (result ≢ Status.WriteFault) →

@@ -1,4 +1,3 @@
 pub mod Size
 pub mod Setup
-pub mod Pieces
 pub mod OperatorRow

@@ -3,7 +3,7 @@ use Rattle.std.specs.Prelude.{ℕ, ◌-◌, ◌^◌, nat_le, nat_lt, bytes_eq, L
 use Rattle.rows.specs.Number.{number_of}
 use Rattle.chf_core.specs.declared.command.Command.{Command}
 use Rattle.chf_core.specs.declared.command.Command.TheVariants.{Subscriber, TopUp, Expire}
-use Rattle.chf_rows.specs.Pieces.{pieces}
+use Rattle.rows.specs.Pieces.{pieces}
 use Rattle.chf_rows.specs.Size.{row_size}
 use Rattle.chf_rows.specs.Setup.{name_of}
 
@@ -17,7 +17,7 @@ abbrev pub groups_of : List ℕ → Option (List ℕ)
 groups_of [] = Some []
 groups_of (byte ∷ field) = groups_in (pieces 32 (byte ∷ field))
 
--- the fields of a row after its word
+-- a subscriber's row: its SUPI, its account and the barred groups
 abbrev pub subscriber_of : List (List ℕ) → Option Command
 subscriber_of (supi ∷ account ∷ barred ∷ []) =
     option_and_then (λ s. option_and_then (λ a. option_map (λ groups. Subscriber s a groups) (groups_of barred)) (name_of account)) (name_of supi)
@@ -27,15 +27,18 @@ subscriber_of _ = None
 abbrev pub amount_of : List ℕ → Option ℕ
 amount_of field = option_and_then (λ n. if nat_lt 0 n then Some n else None) (number_of (2 ^ 80) field)
 
+-- a top-up's row: its id, the account and the amount
 abbrev pub topup_of : List (List ℕ) → Option Command
 topup_of (id ∷ account ∷ amount ∷ []) =
     option_and_then (λ i. option_and_then (λ a. option_map (λ n. TopUp i a n) (amount_of amount)) (name_of account)) (name_of id)
 topup_of _ = None
 
+-- an expiry's row: the moment
 abbrev pub expire_of : List (List ℕ) → Option Command
 expire_of (moment ∷ []) = option_map (λ m. Expire m) (number_of 3155759999 moment)
 expire_of _ = None
 
+-- the command of a row, by its word
 abbrev pub command_in : List (List ℕ) → Option Command
 command_in [] = None
 command_in (word ∷ fields) =

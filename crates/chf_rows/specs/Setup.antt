@@ -33,6 +33,7 @@ abbrev pub is_limits_row : List (List ℕ) → Bool
 is_limits_row [] = false
 is_limits_row (word ∷ fields) = bytes_eq word (codes "limits")
 
+-- what a row under the word of a limits row says
 abbrev pub limits_row : List (List ℕ) → Option Limits
 limits_row [] = None
 limits_row (word ∷ fields) = limits_of fields
@@ -73,6 +74,7 @@ with_size (Some number) (Ok limits) = Err number
 abbrev pub limits_answer : List (List (List ℕ)) → Result Limits ℕ
 limits_answer rows = with_size (first_past 65536 1 rows) (with_tariff (limits_place rows) (first_bad [] (take (limits_place rows) rows)) (ending (limits_place rows) (drop (limits_place rows) rows)))
 
+-- the setup of a tariff and its limits
 abbrev pub setup_with : List (List (List ℕ)) → Result Limits ℕ → Result ChfSetup ℕ
 setup_with tariffs (Ok limits) = Ok (record { tariffs = tariffs; grace = limits.grace; failover = limits.failover })
 setup_with tariffs (Err number) = Err number

@@ -1,3 +1,4 @@
+//! The fields of rows: words and names.
 ghost use Rattle.std.specs.Prelude.{◌≡◌, IfOk, option_map};
 ghost use Rattle.units.specs.Words.{failover_named};
 ghost use Rattle.chf_rows.specs.Setup.{name_of};

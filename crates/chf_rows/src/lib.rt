@@ -10,11 +10,9 @@ mod fields;
 mod limits;
 mod operator_row;
 mod refusal;
-mod separated;
 mod setup_rows;
 mod size;
 
 pub use operator_row::read_operator_row;
 pub use refusal::SetupRefusal;
-pub use separated::piece_length;
 pub use setup_rows::{is_setup_row, read_setup};

@@ -1,3 +1,4 @@
+//! The limits row of a setup.
 ghost use Rattle.std.specs.Prelude.{◌≡◌, ◌≤◌, ◌<◌, ◌^◌, length};
 ghost use Rattle.rows.specs.Number.{number_of};
 ghost use Rattle.chf_rows.specs.Setup.{is_limits_row, limits_of, limits_row, limits_place};

@@ -1,12 +1,12 @@
+//! The commands that an operator's rows give.
 ghost use Rattle.std.specs.Prelude.{◌≡◌, IfOk, option_map};
 ghost use Rattle.chf_rows.specs.OperatorRow.{amount_of, command_in, command_of, expire_of, groups_in, groups_of, subscriber_of, topup_of};
-ghost use Rattle.chf_rows.specs.Pieces.{pieces};
+ghost use Rattle.rows.specs.Pieces.{pieces};
 
 use crate::fields::name;
-use crate::separated::piece_length;
 use crate::size::row_size;
 use chf_core::Command;
-use rows::{number, wide_number};
+use rows::{number, piece_length, wide_number};
 use std::alloc::Global;
 use units::{List, Moment, OutOfMemory, Text, copy};
 

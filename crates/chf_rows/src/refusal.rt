@@ -1,3 +1,4 @@
+//! Why rows are no setup.
 use std::alloc::AllocError;
 use units::OutOfMemory;
 

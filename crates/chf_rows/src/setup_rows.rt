@@ -1,3 +1,4 @@
+//! The rows that set a charging function up.
 ghost use Rattle.std.specs.Prelude.{◌≡◌, ◌<◌, ◌+◌, ◌^◌, [], take, drop, None, IsSome, IfOk, IfErr, Ok, Err, Result, MatchOption};
 ghost use Rattle.units.specs.Answers.{IsOrNoMemory};
 ghost use Rattle.rating.specs.Grammar.{first_bad};

@@ -1,3 +1,4 @@
+//! How many bytes a row has.
 ghost use Rattle.std.specs.Prelude.{◌≡◌, ◌<◌, ◌-◌, ◌^◌, min};
 ghost use Rattle.chf_rows.specs.Size.{first_past, row_size};
 

@@ -2,7 +2,7 @@
 //!
 //! Each device is a trait whose ghost members are what it may tell, and a failure comes only where its count of faults
 //! rose. A form in memory tells all, and its methods say exactly when they fail and what they leave, by a script of its
-//! calls. An adapter over the system tells nothing of content, and is believed to do what its trait says. A new device
+//! calls. An adapter over the system is proved against its trait, and tells nothing of content. A new device
 //! takes a trait, a form in memory and an adapter, each in a file of its own.
 #![tactic(auto)]
 

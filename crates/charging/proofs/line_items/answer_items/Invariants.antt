@@ -1,5 +1,5 @@
 use Rattle.std.proofs.Common.{◌≡◌, ◌++◌, length, map}
-use Rattle.chf_rows.specs.Pieces.{pieces}
+use Rattle.rows.specs.Pieces.{pieces}
 use Rattle.charging.specs.Items.{line_item}
 use Rattle.charging.proofs.line_items.answer_items.Given as goal
 

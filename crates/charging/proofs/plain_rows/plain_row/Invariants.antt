@@ -1,7 +1,7 @@
 use Rattle.std.proofs.Common.{◌≡◌, ◌++◌, length}
 use Rattle.std.specs.List.{list_all}
 use Rattle.std.specs.Str.{is_utf8}
-use Rattle.chf_rows.specs.Pieces.{pieces}
+use Rattle.rows.specs.Pieces.{pieces}
 use Rattle.charging.proofs.plain_rows.plain_row.Given as goal
 
 abbrev pub invariant-loop-fields : goal.invariant-loop-fields

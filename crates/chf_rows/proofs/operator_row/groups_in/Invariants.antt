@@ -1,6 +1,6 @@
 use Rattle.std.proofs.Common.{◌≡◌, ◌++◌, length, option_map}
 use Rattle.chf_rows.specs.OperatorRow.{groups_in}
-use Rattle.chf_rows.specs.Pieces.{pieces}
+use Rattle.rows.specs.Pieces.{pieces}
 use Rattle.chf_rows.proofs.operator_row.groups_in.Given as goal
 
 abbrev pub invariant-loop-group : goal.invariant-loop-group
