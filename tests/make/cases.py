@@ -12,6 +12,7 @@ from messages import BASE
 from times import write_time
 
 MADE = Path(sys.argv[1])
+HERE = Path(__file__).resolve().parents[2]
 LIMITS = "limits,0,0,0,0,60,chf1,FAILOVER_SUPPORTED"
 DAY = 1767312000  # 2026-01-02T00:00:00Z
 RATES = [
@@ -146,6 +147,17 @@ def answer_grants():
     answer("answer-grants", setup, lines)
 
 
+def answer_all_bodies():
+    """Each body of the table of requests, whatever its fields hold."""
+    lines = ["subscriber,imsi-1,a1,"]
+    paths = dict(C="", U="/5/update", R="/5/release")
+    for line in (HERE / "crates" / "acceptance" / "stdin").read_text().splitlines():
+        table, *fields = line.split("\t")
+        if table == "request":
+            lines.append(f"POST {BASE}{paths[fields[0]]} {fields[1]}")
+    answer("answer-all-bodies", RATES + [LIMITS], lines)
+
+
 def drawn_entries(draw, moment):
     """Entries of few groups, some of which ask and some of which report."""
     entries = []
@@ -211,5 +223,6 @@ operator_with_many_accounts()
 answer_with_many_sessions()
 answer_prices_and_switches()
 answer_grants()
+answer_all_bodies()
 for number in range(1, 7):
     answer_drawn(number)

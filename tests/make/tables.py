@@ -1,19 +1,21 @@
 #!/usr/bin/env python3
 """tables.py: works the last column of crates/acceptance/stdin out anew, by models that know nothing of the program, and
 writes the counts of crates/acceptance/stdout. A new case is a line of stdin with anything in its last column. The tables
-once and quota have answers that were worked out by hand; their lines stay as they are. With --check nothing is written, and
-a line whose answer is another is a failure.
+once, quota, events, many-events and devices have answers that were worked out by hand; their lines stay as they are. With
+--check nothing is written, and a line whose answer is another is a failure.
 """
 import sys
 from pathlib import Path
 
 import elements
 import http_messages
+import messages
 import reports
 import times
 
 FOLDER = Path(__file__).resolve().parents[2] / "crates" / "acceptance"
-TABLES = "time stamp element length once meter quota request response".split()
+TABLES = "time stamp request reply element length once meter quota events many-events devices http-request http-response".split()
+OPERATIONS = dict(C="create", U="update", R="release")
 
 
 def time(text):
@@ -26,8 +28,25 @@ def stamp(octets):
     return "-" if moment is None else str(moment)
 
 
-MODELS = dict(time=time, stamp=stamp, element=elements.element, length=elements.length, meter=reports.meter,
-              request=http_messages.requests, response=http_messages.responses)
+def request(operation, body):
+    operation = OPERATIONS[operation]
+    try:
+        return messages.write_request(messages.read_request(operation, body.encode()))
+    except messages.Fault as fault:
+        return " ".join((messages.cause_of(operation, fault),) + fault.args[1:])
+
+
+def reply(status, location, body):
+    try:
+        made, written = messages.read_reply(int(status), None if location == "-" else location, body.encode())
+        return written if made is None else f"{messages.BASE}/{made} {written}"
+    except messages.Fault as fault:
+        return " ".join(fault.args)
+
+
+MODELS = {
+    "time": time, "stamp": stamp, "request": request, "reply": reply, "element": elements.element, "length": elements.length,
+    "meter": reports.meter, "http-request": http_messages.requests, "http-response": http_messages.responses}
 
 
 def main():

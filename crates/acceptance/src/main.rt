@@ -3,8 +3,11 @@
 //! it, and at the end how many lines each table has.
 #![tactic(auto)]
 
+mod devices;
 mod elements;
+mod events;
 mod http;
+mod messages;
 mod quota_steps;
 mod reports;
 mod times;
@@ -20,8 +23,21 @@ use units::OutOfMemory;
 const INPUT_LIMIT: usize = 1 << 24;
 
 /// The tables, by the words that begin their lines.
-const TABLES: [&str; 9] = [
-    "time", "stamp", "element", "length", "once", "meter", "quota", "request", "response",
+const TABLES: [&str; 14] = [
+    "time",
+    "stamp",
+    "request",
+    "reply",
+    "element",
+    "length",
+    "once",
+    "meter",
+    "quota",
+    "events",
+    "many-events",
+    "devices",
+    "http-request",
+    "http-response",
 ];
 
 // What is answered on a case.
@@ -29,13 +45,20 @@ fn answer(alloc: Global, table: &str, fields: &[&str]) -> Result<String, OutOfMe
     match (table, fields) {
         ("time", [text]) => times::time(alloc, text),
         ("stamp", [octets]) => times::stamp(alloc, octets),
+        ("request", [operation, body]) => messages::request(alloc, operation, body),
+        ("reply", [status, location, body]) => messages::reply(alloc, status, location, body),
         ("element", [octets]) => elements::element(alloc, octets),
         ("length", [count]) => elements::length(alloc, count),
         ("once", [octets]) => elements::once(alloc, octets),
         ("meter", [horizon, reports]) => reports::meter(alloc, horizon, reports),
         ("quota", [steps]) => quota_steps::quota(alloc, steps),
-        ("request", [octets]) => http::requests(alloc, octets),
-        ("response", [octets]) => http::responses(alloc, octets),
+        ("events", [events]) => events::events(alloc, false, events),
+        ("many-events", [events]) => events::events(alloc, true, events),
+        ("devices", [words, input, reads, writes, room]) => {
+            devices::devices(alloc, words, input, reads, writes, room)
+        }
+        ("http-request", [octets]) => http::requests(alloc, octets),
+        ("http-response", [octets]) => http::responses(alloc, octets),
         _ => Ok(String::from_str(alloc, "no such table")?),
     }
 }

@@ -33,6 +33,3 @@ mod words;
 pub use laws::each_message_is_answered;
 pub use status::Status;
 pub use top::charging;
-
-#[cfg(test)]
-mod tests;

@@ -35,6 +35,3 @@ pub use reply_reader::read_reply;
 pub use reply_writer::{reply_location, reply_status, write_reply};
 pub use request_reader::read_request;
 pub use request_writer::write_request;
-
-#[cfg(test)]
-mod tests;

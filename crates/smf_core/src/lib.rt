@@ -49,8 +49,3 @@ pub use refusal::{Seen, SmfRefusal};
 pub use session::{Entry, Holding, Layer, Life, Machine, Place, Session, Why};
 pub use setup::SmfSetup;
 pub use smf::Smf;
-
-#[cfg(test)]
-mod test_rows;
-#[cfg(test)]
-mod tests;

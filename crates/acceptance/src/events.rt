@@ -1,11 +1,11 @@
-//! Events as rows of words, and what is seen of a machine as words; for tests.
-use crate::{Seen, Smf, SmfEvent, SmfRefusal, SmfSetup};
+//! Events of one session, number 7, given to the machine of the charging trigger function.
+use crate::values::{long as number, small};
 use quotas::Gate;
+use smf_core::{Seen, Smf, SmfEvent, SmfRefusal, SmfSetup};
 use std::alloc::Global;
-use std::test::Fail;
 use units::{
-    Action, Amount, Answer, Code, Handling, List, Moment, Operation, Problem, Reply, Report,
-    Request, Text, TriggerRule, TriggerType, UnitInfo,
+    Action, Amount, Answer, Code, Handling, List, Moment, Operation, OutOfMemory, Problem, Reply,
+    Report, Request, Text, TriggerRule, TriggerType, UnitInfo,
 };
 
 const ATTACHED: u64 = 1_767_323_045;
@@ -22,14 +22,6 @@ const TYPES: [(&str, TriggerType); 9] = [
     ("MANAGEMENT", TriggerType::ManagementIntervention),
 ];
 
-fn number(text: &str) -> u64 {
-    text.parse::<u64>().unwrap_or(0)
-}
-
-fn small(text: &str) -> u32 {
-    text.parse::<u32>().unwrap_or(0)
-}
-
 // So many seconds after the Attach, which is 245 seconds after an hour.
 fn at(seconds: u64) -> Moment {
     Moment::new(ATTACHED.saturating_add(seconds)).unwrap_or(Moment::first())
@@ -45,7 +37,7 @@ fn trigger(text: &str) -> TriggerType {
 }
 
 // A setup; with many, a request is not due for the number of changes.
-fn setup(alloc: Global, many: bool) -> Result<SmfSetup, Fail> {
+fn setup(alloc: Global, many: bool) -> Result<SmfSetup, OutOfMemory> {
     Ok(SmfSetup {
         name: Text::from_text(alloc, "smf1")?,
         failover: true,
@@ -97,7 +89,7 @@ fn info(alloc: Global, fields: &[&str]) -> Option<UnitInfo> {
     }
 }
 
-fn answer(alloc: Global, request: u32, entries: &[&str]) -> Result<Answer, Fail> {
+fn answer(alloc: Global, request: u32, entries: &[&str]) -> Result<Answer, OutOfMemory> {
     let mut units = List::new(alloc);
     let mut triggers = List::new(alloc);
     for entry in entries {
@@ -126,7 +118,7 @@ fn answer(alloc: Global, request: u32, entries: &[&str]) -> Result<Answer, Fail>
 }
 
 // The event of a row; the number of a report may be the one that is expected.
-fn event(alloc: Global, smf: &Smf, words: &[&str]) -> Result<SmfEvent, Fail> {
+fn event(alloc: Global, smf: &Smf, words: &[&str]) -> Result<SmfEvent, OutOfMemory> {
     let session = 7;
     Ok(match words {
         ["attach", numbers] => {
@@ -245,19 +237,19 @@ fn taken(alloc: Global, smf: &mut Smf, event: &SmfEvent) -> Result<Seen, SmfRefu
     }
 }
 
-fn show_request(request: &Request, text: &mut String) -> Result<(), Fail> {
+fn show_request(alloc: Global, request: &Request, text: &mut String) -> Result<(), OutOfMemory> {
     text.push_str(match request.operation {
         Operation::Create => "C",
         Operation::Update(_) => "U",
         Operation::Release(_) => "R",
     })?;
     let number = request.number;
-    write!(text, "{number}")?;
+    text.push_str(format!(in alloc; "{number}")?.as_str())?;
     for entry in request.usage.as_slice() {
         let group = entry.group;
         let ask = if entry.ask.is_some() { "?" } else { ":" };
         let used = entry.used.len();
-        write!(text, " {group}{ask}{used}")?;
+        text.push_str(format!(in alloc; " {group}{ask}{used}")?.as_str())?;
     }
     if !request.triggers.is_empty() {
         text.push_str(" !")?;
@@ -265,15 +257,15 @@ fn show_request(request: &Request, text: &mut String) -> Result<(), Fail> {
     Ok(())
 }
 
-// The unanswered request, how many containers there are and are held, and the gate of group 10.
-fn show(smf: &Smf, text: &mut String) -> Result<(), Fail> {
+// The unanswered request with its rating groups (`?` where it asks, and how many containers), how many containers there are and are held, and the gate of group 10.
+fn show(alloc: Global, smf: &Smf, text: &mut String) -> Result<(), OutOfMemory> {
     match smf.request(7) {
         None => text.push_str("-")?,
-        Some(request) => show_request(request, text)?,
+        Some(request) => show_request(alloc, request, text)?,
     }
     let all = smf.containers(7).len();
     let held = smf.held(7).len();
-    write!(text, " c{all} h{held} ")?;
+    text.push_str(format!(in alloc; " c{all} h{held} ")?.as_str())?;
     text.push_str(match smf.gate(7, 10) {
         Gate::Passing => "passing",
         Gate::Waiting => "waiting",
@@ -284,14 +276,14 @@ fn show(smf: &Smf, text: &mut String) -> Result<(), Fail> {
     Ok(())
 }
 
-fn take_words(alloc: Global, smf: &mut Smf, words: &[&str]) -> Result<&'static str, Fail> {
+fn take_words(alloc: Global, smf: &mut Smf, words: &[&str]) -> Result<&'static str, OutOfMemory> {
     let event = event(alloc, smf, words)?;
     Ok(word(&taken(alloc, smf, &event)))
 }
 
-/// What comes of a row of events: the answers, and what is seen at the end. A word `fill` makes so many containers of group 10,
-/// each closed by a change.
-pub fn outcome(alloc: Global, many: bool, row: &str) -> Result<String, Fail> {
+/// What comes of a row of events: the answers, and what is seen at the end. With many, a request is not due for the number of changes.
+/// A word `fill` makes so many containers of group 10, each closed by a change.
+pub fn events(alloc: Global, many: bool, row: &str) -> Result<String, OutOfMemory> {
     let mut smf = Smf::new(alloc, &setup(alloc, many)?)?;
     let mut text = String::new(alloc);
     for part in row.split(';') {
@@ -307,6 +299,6 @@ pub fn outcome(alloc: Global, many: bool, row: &str) -> Result<String, Fail> {
         }
     }
     text.push_str(" ")?;
-    show(&smf, &mut text)?;
+    show(alloc, &smf, &mut text)?;
     Ok(text)
 }
