@@ -1,4 +1,5 @@
 //! Turns of reading HTTP requests, beside `httparse` alone on the same bytes.
+ghost use Rattle.std.specs.Prelude.{◌<◌};
 use edge::{Counted, Failed, MemSource, Source, Stream};
 use httparse::Status;
 use httparse::spans::{EMPTY_HEADER_SPAN, parse_request};
@@ -13,6 +14,7 @@ const REQUEST: &[u8] = b"POST /nchf-convergedcharging/v3/chargingdata/17/update 
 const REQUESTS: u64 = 1000;
 
 /// A source that gives at most so many bytes a read.
+#[derive(Drop)]
 struct Pieces {
     source: MemSource,
     size: usize,
