@@ -1,5 +1,6 @@
 //! Turns of reading HTTP requests, beside `httparse` alone on the same bytes.
 ghost use Rattle.std.specs.Prelude.{◌<◌};
+
 use edge::{Counted, Failed, MemSource, Source, Stream};
 use httparse::Status;
 use httparse::spans::{EMPTY_HEADER_SPAN, parse_request};
@@ -8,7 +9,8 @@ use units::OutOfMemory;
 use wire::Conn;
 
 /// A small request as `curl` sends it, 212 bytes.
-const REQUEST: &[u8] = b"POST /nchf-convergedcharging/v3/chargingdata/17/update HTTP/1.1\r\nHost: 127.0.0.1:8080\r\nUser-Agent: curl/7.88.1\r\nAccept: */*\r\nContent-Type: application/json\r\nContent-Length: 30\r\n\r\n{\"invocationSequenceNumber\":1}";
+const REQUEST: &[u8] =
+    b"POST /nchf-convergedcharging/v3/chargingdata/17/update HTTP/1.1\r\nHost: 127.0.0.1:8080\r\nUser-Agent: curl/7.88.1\r\nAccept: */*\r\nContent-Type: application/json\r\nContent-Length: 30\r\n\r\n{\"invocationSequenceNumber\":1}";
 
 /// How many requests stand one after another in a stream.
 const REQUESTS: u64 = 1000;
