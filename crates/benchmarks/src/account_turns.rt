@@ -1,3 +1,4 @@
+//! Turns of charges and reservations of accounts.
 ghost use Rattle.std.specs.Prelude.{◌≡◌, ◌<◌, ◌≤◌, OnOk, IfOk};
 ghost use Rattle.benchmarks.specs.Books.{IsOnFirst};
 

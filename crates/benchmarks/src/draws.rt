@@ -1,3 +1,5 @@
+//! Drawn numbers, the same in each run.
+
 /// Draws numbers from a seed by a linear congruential generator.
 #[derive(Clone, Copy, Debug)]
 pub struct Draws {

@@ -1,3 +1,4 @@
+//! Turns of BER elements read, beside passes over the same octets.
 use ber::{Anything, read};
 use std::alloc::{AllocError, Global};
 

@@ -1,3 +1,4 @@
+//! The lines of a run read as JSON alone.
 use edge::{ReadEnd, Source, read_all};
 use serde_json::Value;
 use std::alloc::Global;

@@ -1,3 +1,4 @@
+//! Turns of charging messages read and written, beside JSON alone.
 use charging_json::{read_request, write_reply};
 use serde_json::Value;
 use std::alloc::{AllocError, Global};

@@ -1,3 +1,4 @@
+//! Turns of times read and written, beside copies of their texts.
 use crate::draws::Draws;
 use moments::{read_time, write_time};
 use units::Moment;

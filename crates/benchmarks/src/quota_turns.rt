@@ -1,3 +1,4 @@
+//! Turns of use and of what is due in one rating group.
 use crate::draws::Draws;
 use quotas::{Group, Limits};
 use std::alloc::Global;

@@ -1,3 +1,4 @@
+//! Turns of prices among many rating groups and periods.
 use crate::draws::Draws;
 use rating::Tariffs;
 use std::alloc::{AllocError, Global};

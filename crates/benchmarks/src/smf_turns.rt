@@ -1,3 +1,4 @@
+//! Turns of reports of many sessions through the SMF's machine.
 use crate::draws::Draws;
 use meter::Meter;
 use smf_core::{Smf, SmfEvent, SmfRefusal, SmfSetup};

@@ -1,3 +1,4 @@
+//! Turns of a hash table alone.
 use crate::draws::Draws;
 use std::alloc::Global;
 use std::collections::HashMap;

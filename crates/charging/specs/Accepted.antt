@@ -30,6 +30,7 @@ abbrev pub setup_length : List Item → ℕ
 setup_length [] = 0
 setup_length (item ∷ items) = if is_setup item then setup_length items + 1 else 0
 
+-- an empty line
 abbrev pub is_blank : Item → Bool
 is_blank Blank = true
 is_blank (Row fields) = false
@@ -56,6 +57,7 @@ abbrev pub first_bad : ℕ → List Item → Option ℕ
 first_bad here [] = None
 first_bad here (item ∷ items) = if is_accepted item then first_bad (here + 1) items else Some here
 
+-- the setup, or the number of the bad item
 abbrev pub unless_bad : ChfSetup → Option ℕ → Result ChfSetup ℕ
 unless_bad setup None = Ok setup
 unless_bad setup (Some number) = Err number

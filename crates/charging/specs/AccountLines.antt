@@ -29,6 +29,7 @@ abbrev pub or_zero : Option ℕ → ℕ
 or_zero None = 0
 or_zero (Some amount) = amount
 
+-- a sum of an account, 0 where the account is not known
 abbrev pub sum_of : State → ℕ → ℕ → ℕ
 sum_of state account amount = or_zero (where_known state account amount)
 
@@ -41,6 +42,7 @@ balance_text state account =
 abbrev pub owed_text : State → ℕ → List ℕ
 owed_text state account = decimal (sum_of state account (numbers state account).owed) ++ (codes "," ++ (decimal (sum_of state account (reserved state account)) ++ codes "\n"))
 
+-- the line of an account
 abbrev pub account_line : State → List ℕ × ℕ → List ℕ
 account_line state account = name_text account.0 ++ (balance_text state account.1 ++ owed_text state account.1)
 

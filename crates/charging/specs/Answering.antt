@@ -46,10 +46,12 @@ verdict_line Known = codes "known\n"
 verdict_line (Refused refusal) = codes "refused,E" ++ (decimal (refusal_number refusal) ++ codes "\n")
 verdict_line (Fresh outcome) = codes "ok\n"
 
+-- the line of a row's command; a row that gives none has no line
 abbrev pub command_line : List Command → Option Command → List ℕ
 command_line commands None = []
 command_line commands (Some command) = verdict_line (decision commands command)
 
+-- the commands after a row
 abbrev pub after_command : List Command → Option Command → List Command
 after_command commands None = commands
 after_command commands (Some command) = kept commands command (decision commands command)
@@ -79,10 +81,12 @@ verdict_reply commands Known = None
 verdict_reply commands (Refused refusal) = refusal_reply refusal
 verdict_reply commands (Fresh outcome) = reply_in (Some outcome)
 
+-- the reply to a message: that of its request, or the one that refuses it
 abbrev pub message_reply : List Command → Result Request Reply → Option Reply
 message_reply commands (Err reply) = Some reply
 message_reply commands (Ok request) = verdict_reply commands (decision commands (Charge request))
 
+-- the commands after a message
 abbrev pub after_message : List Command → Result Request Reply → List Command
 after_message commands (Err reply) = commands
 after_message commands (Ok request) = kept commands (Charge request) (decision commands (Charge request))
@@ -92,6 +96,7 @@ abbrev pub part : List ℕ → List ℕ
 part [] = codes "-"
 part (byte ∷ text) = byte ∷ text
 
+-- a part that may be absent
 abbrev pub part_of : Option (List ℕ) → List ℕ
 part_of None = codes "-"
 part_of (Some text) = text
@@ -100,6 +105,7 @@ part_of (Some text) = text
 abbrev pub reply_line : Reply → List ℕ
 reply_line reply = decimal (status_of reply) ++ (codes " " ++ (part_of (location_of reply) ++ (codes " " ++ (part (reply_text reply) ++ codes "\n"))))
 
+-- the line of a message
 abbrev pub message_line : Option Reply → List ℕ
 message_line None = []
 message_line (Some reply) = reply_line reply

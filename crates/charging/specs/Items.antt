@@ -52,6 +52,7 @@ message_item method path body = if nat_lt 0 (length path) && (is_utf8 path && na
 abbrev pub message_of : Method → List ℕ → Item
 message_of method text = message_item method (take (piece_length 32 text) text) (drop (piece_length 32 text + 1) text)
 
+-- a line by the method that it begins with
 abbrev pub line_by : Option Method → List ℕ → Item
 line_by None line = only_row (rows_in line)
 line_by (Some method) line = message_of method (drop (length (method_word method)) line)

@@ -17,9 +17,11 @@ span_text c = decimal c.lsn ++ (codes "," ++ (decimal c.first ++ (codes "," ++ (
 abbrev pub use_text : Prices → Container → List ℕ
 use_text prices c = decimal c.up ++ (codes "," ++ (decimal c.down ++ (codes "," ++ (decimal c.seconds ++ (codes "," ++ (decimal (charge_of prices c) ++ codes "\n"))))))
 
+-- the line of a container
 abbrev pub line_of : Prices → Container → List ℕ
 line_of prices c = span_text c ++ use_text prices c
 
+-- `total,T`
 abbrev pub total_line : ℕ → List ℕ
 total_line total = codes "total," ++ (decimal total ++ codes "\n")
 

@@ -50,6 +50,7 @@ abbrev pub with_report : Option Report → List Report → List Report
 with_report None reports = reports
 with_report (Some report) reports = report ∷ reports
 
+-- the reports that rows give, the first of which has this number
 abbrev pub reports_from : ℕ → List (List (List ℕ)) → List Report
 reports_from number [] = []
 reports_from number (row ∷ rows) = with_report (report_of number row) (reports_from (number + 1) rows)

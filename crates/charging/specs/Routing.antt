@@ -36,6 +36,7 @@ field_of (Missing field) = Some field
 field_of (Wrong field) = Some field
 field_of OutOfMemory = None
 
+-- the problem of a body that is refused, with its field
 abbrev pub body_problem : Operation → JsonRefusal → Reply
 body_problem operation refusal = problem 400 (cause_of operation refusal) (field_of refusal)
 
@@ -64,6 +65,7 @@ abbrev pub below : List ℕ → Option Operation
 below [] = Some Create
 below (byte ∷ text) = if byte == 47 then in_session text else None
 
+-- the operation that a path without its query names
 abbrev pub operation_in : List ℕ → Option Operation
 operation_in path = if begins_with path collection then below (drop (length collection) path) else None
 
@@ -73,15 +75,18 @@ operation_at path = operation_in (take (piece_length 63 path) path)
 
 -- ---- messages
 
+-- the request of a body, or the problem of its refusal
 abbrev pub or_problem : Operation → Result Request JsonRefusal → Result Request Reply
 or_problem operation (Ok request) = Ok request
 or_problem operation (Err refusal) = Err (body_problem operation refusal)
 
+-- a session is changed by POST alone
 abbrev pub by_method : Method → Operation → List ℕ → Result Request Reply
 by_method Post operation body = or_problem operation (request_in operation body)
 by_method Put operation body = Err (not_found 405)
 by_method Delete operation body = Err (not_found 405)
 
+-- a path that names no operation is unknown
 abbrev pub by_operation : Method → Option Operation → List ℕ → Result Request Reply
 by_operation method None body = Err (not_found 404)
 by_operation method (Some operation) body = by_method method operation body

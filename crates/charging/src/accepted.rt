@@ -1,3 +1,4 @@
+//! Which items of an input are accepted: the setup that they give, or the first bad one.
 ghost use Rattle.std.specs.Prelude.{◌≡◌, ◌≤◌, ◌<◌, ◌+◌, ◌++◌, ◌^◌, ◌⊎◌, ℕ, Ok, Err, IfOk, OnOk, length};
 ghost use Rattle.charging.specs.Accepted.{after_setup, first_bad, is_accepted, is_blank, is_setup, number_at, outcome, row_in, setup_length, setup_rows};
 ghost use Rattle.chf_rows.specs.Setup.{setup_answer};

@@ -1,3 +1,4 @@
+//! Rows of an input (RFC 4180), read one after the other.
 ghost use Rattle.std.specs.Prelude.{◌≡◌, ℕ, List, [], IfOk, Ok, Some, None, true, false};
 ghost use Rattle.csv.specs.Machine.{Read, next_record};
 ghost use Rattle.csv.specs.Reading.{default_config, strip_bom};

@@ -1,3 +1,4 @@
+//! Items: what a row of `operator` or a line of `answer` says.
 use units::{List, Text};
 
 /// The method of a message (RFC 9110, 9.3).

@@ -1,3 +1,4 @@
+//! The lines of `answer` as items: messages with their bodies, and rows.
 ghost use Rattle.std.specs.Prelude.{◌≡◌, IfOk, Some, None, drop, length, option_map, if◌then◌else◌};
 ghost use Rattle.charging.specs.Items.{answer_items, begins_with, line_by, line_item, message_item, message_of, method_of, method_word};
 

@@ -1,3 +1,4 @@
+//! The printed table of `meter`: a line for each container, and the total.
 ghost use Rattle.std.specs.Prelude.{◌≡◌, ◌≤◌, ◌^◌, ◌<◌, ◌*◌, ◌++◌, IfOk, OnOk, length, string_bytes};
 ghost use Rattle.charging.specs.Words.{AreInRange};
 ghost use Rattle.charging.specs.MeterLines.{charge_of, line_of, span_text, table_of, total_line, use_text};

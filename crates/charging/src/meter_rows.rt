@@ -1,3 +1,4 @@
+//! The rows of `meter` as reports, given to a meter in order.
 ghost use Rattle.std.specs.Prelude.{◌≡◌, ◌<◌, ◌^◌, ℕ, ◌∷◌, [], Err, OnOk};
 ghost use Rattle.csv.specs.Records.{fields_of};
 ghost use Rattle.meter.specs.Contents.{nothing_yet};

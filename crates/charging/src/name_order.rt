@@ -1,3 +1,4 @@
+//! Names, ordered by their bytes.
 ghost use Rattle.std.specs.Prelude.{◌≡◌, IfOk};
 
 use std::alloc::{AllocError, Global};

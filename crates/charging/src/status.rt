@@ -1,3 +1,4 @@
+//! How a run ends: its exit status and the last line that it prints.
 ghost use Rattle.std.specs.Prelude.{◌≡◌, ◌⊎◌, IfOk, string_bytes};
 ghost use Rattle.charging.specs.Status.{WritesText, code_of, error_line};
 

@@ -1,3 +1,4 @@
+//! The top call: from the words of the command line, an input and an output to a status.
 ghost use Rattle.std.specs.Prelude.{◌≡◌, ◌≢◌, ◌≤◌, ◌<◌, ◌^◌, ◌⊎◌, List, ℕ, None, Some, Ok, Err, take, IfOk, IfErr, OnOk, IfSome, string_bytes, length};
 ghost use Rattle.std.specs.Io.KnownBytes.{Appends, IsAtEnd};
 ghost use Rattle.edge.specs.Faults.{CountRose};

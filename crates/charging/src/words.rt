@@ -1,3 +1,4 @@
+//! The words of the command line as a task.
 ghost use Rattle.std.specs.Prelude.{◌≡◌, IfOk, IfSome, option_map, true};
 ghost use Rattle.std.specs.List.{list_all};
 ghost use Rattle.charging.specs.Parsing.{is_plain};

@@ -30,6 +30,7 @@ charging rates t (u ∷ usage) moves = charging rates t usage (charging_used rat
 abbrev pub releasing_one : Target → UnitUsage → List Move → List Move
 releasing_one t u moves = if is_some u.ask || gives_back u then Released t.session u.group ∷ moves else moves
 
+-- entry by entry
 abbrev pub releasing : Target → List UnitUsage → List Move → List Move
 releasing t [] moves = moves
 releasing t (u ∷ usage) moves = releasing t usage (releasing_one t u moves)
@@ -38,6 +39,7 @@ releasing t (u ∷ usage) moves = releasing t usage (releasing_one t u moves)
 abbrev pub granting_one : Rating → Target → ℕ → GroupAsk → List Move → List Move
 granting_one rating t stamp a moves = Reserved t.account t.session a.group (granted rating (free (state_of moves) t.account) a).reserve (deadline_of rating stamp a.group) ∷ moves
 
+-- ask by ask, in their order
 abbrev pub granting : Rating → Target → ℕ → List GroupAsk → List Move → List Move
 granting rating t stamp [] moves = moves
 granting rating t stamp (a ∷ asks) moves = granting rating t stamp asks (granting_one rating t stamp a moves)
@@ -58,6 +60,7 @@ abbrev pub adding : List Move → Option ℕ → List Move
 adding moves None = Added ∷ moves
 adding moves (Some number) = moves
 
+-- an amount is added to a known account
 abbrev pub topping : List Move → ℕ → Option ℕ → List Move
 topping moves amount None = moves
 topping moves amount (Some account) = ToppedUp account amount ∷ moves

@@ -14,6 +14,7 @@ abbrev pub cost_used : List (List (List ℕ)) → ℕ → List Used → ℕ
 cost_used rates group [] = 0
 cost_used rates group (c ∷ used) = price rates group c.up c.down c.seconds c.first + cost_used rates group used
 
+-- what all entries cost
 abbrev pub cost : List (List (List ℕ)) → List UnitUsage → ℕ
 cost rates [] = 0
 cost rates (u ∷ usage) = cost_used rates u.group u.used + cost rates usage

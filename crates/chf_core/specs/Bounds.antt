@@ -13,6 +13,7 @@ abbrev pub UsedWithin : List Used → Type 0
 UsedWithin [] = Unit {0}
 UsedWithin (c ∷ used) = ((c.up + c.down ≤ 2 ^ 61) × (c.seconds < 2 ^ 32)) × UsedWithin used
 
+-- so are the containers of every entry
 abbrev pub UsageWithin : List UnitUsage → Type 0
 UsageWithin [] = Unit {0}
 UsageWithin (u ∷ usage) = UsedWithin u.used × UsageWithin usage

@@ -36,6 +36,7 @@ abbrev pub at_kept : ℕ → ℕ → Bool → Verdict
 at_kept place last true = Kept place
 at_kept place last false = Refused (SequencePassed last)
 
+-- a request that is new comes to its first reply
 abbrev pub fresh_charge : List Command → Request → Verdict
 fresh_charge commands q = Fresh (outcome.Charged (first_reply commands q))
 
@@ -50,6 +51,7 @@ at_new_later commands q None = Refused UnknownReference
 at_new_later commands q (Some s) =
     if nat_le q.number s.last then Refused (SequencePassed s.last) else (if s.is_open then fresh_charge commands q else Refused (SessionClosed s.last))
 
+-- a request under a new key, by its operation
 abbrev pub at_new : Operation → List Command → Request → Option Session → Verdict
 at_new Create commands q s = at_new_create commands q s
 at_new (Update reference) commands q s = at_new_later commands q s
@@ -70,6 +72,7 @@ abbrev pub same_row : List ℕ → List ℕ → Option Subscription → Bool
 same_row account barred None = false
 same_row account barred (Some s) = name_eq s.account account && pointwise nat_eq s.barred barred
 
+-- a subscriber's row that says what the latest one says changes nothing
 abbrev pub decide_subscriber : Bool → Verdict
 decide_subscriber true = Known
 decide_subscriber false = Fresh outcome.Done
@@ -79,6 +82,7 @@ abbrev pub decide_again : List ℕ → ℕ → Option Sum → Verdict
 decide_again account amount None = Fresh outcome.Done
 decide_again account amount (Some s) = if name_eq s.account account && s.amount == amount then Known else Refused TopUpDiffers
 
+-- a top-up of an unknown account is refused
 abbrev pub decide_topup : List ℕ → ℕ → Option ℕ → Option Sum → Verdict
 decide_topup account amount None sum = Refused UnknownAccount
 decide_topup account amount (Some number) sum = decide_again account amount sum

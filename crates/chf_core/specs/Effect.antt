@@ -1,6 +1,6 @@
 -- What an accepted charging data request does to the accounts: all containers are charged, then reservations are given back, then grants are made
 -- (charging with reservation of units: TS 32.290, 5.2.2 and 5.3.2; the order and the rules are this product's own).
-use Rattle.std.specs.Prelude.{ℕ, ◌+◌, ◌-◌, ◌==◌, ◌&&◌, ◌||◌, not, min, Bool, true, false, cond, if◌then◌else◌, List, [], ◌∷◌, ◌++◌, length, Option, Some, None, is_some, codes, option_map, slice_get}
+use Rattle.std.specs.Prelude.{ℕ, ◌+◌, ◌-◌, ◌==◌, ◌&&◌, ◌||◌, not, min, Bool, true, false, cond, if◌then◌else◌, List, [], ◌∷◌, ◌++◌, length, Option, Some, None, is_some, option_map, slice_get}
 use Rattle.std.specs.List.{list_any}
 use Rattle.units.specs.declared.answer.Code.{Code}
 use Rattle.units.specs.declared.answer.Code.TheVariants.{Success, Denied}
@@ -12,6 +12,8 @@ use Rattle.units.specs.declared.request.Operation.TheVariants.{Create, Update, R
 use Rattle.units.specs.declared.request.Ask.{Ask}
 use Rattle.units.specs.declared.request.Used.{Used}
 use Rattle.units.specs.declared.request.UnitUsage.{UnitUsage}
+use Rattle.units.specs.declared.trigger.TriggerType.TheVariants.{Final, QuotaHoldingTime}
+use Rattle.units.specs.Words.{name_of_type}
 use Rattle.rating.specs.declared.terms.Kind.{Kind}
 use Rattle.rating.specs.declared.terms.Kind.TheVariants.{Volume, Time, Offline}
 use Rattle.rating.specs.declared.terms.Terms.{Terms}
@@ -44,13 +46,14 @@ charged rates t (u ∷ usage) s = charged rates t usage (charged_used rates t u.
 
 -- whether triggers hold FINAL or QHT (final units and quota holding time: TS 32.291, 6.1.6.3.6)
 abbrev pub has_final : List (List ℕ) → Bool
-has_final triggers = list_any (λ t. name_eq t (codes "QHT") || name_eq t (codes "FINAL")) triggers
+has_final triggers = list_any (λ t. name_eq t (name_of_type QuotaHoldingTime) || name_eq t (name_of_type Final)) triggers
 
 -- whether the last container has one of them, or there is no container
 abbrev pub is_final : Option Used → Bool
 is_final None = true
 is_final (Some c) = has_final c.triggers
 
+-- whether the last of some containers ends so
 abbrev pub ends_final : List Used → Bool
 ends_final used = is_final (slice_get used (length used - 1))
 
@@ -86,9 +89,11 @@ abbrev pub asks_after : List UnitUsage → List UnitUsage → List GroupAsk
 asks_after earlier [] = []
 asks_after earlier (u ∷ usage) = (if mentions earlier u.group then [] else asking u.group (first_ask u.group (u ∷ usage))) ++ asks_after (earlier ++ u ∷ []) usage
 
+-- the groups that ask, each once, in the order in which they are first named
 abbrev pub asks_of : List UnitUsage → List GroupAsk
 asks_of usage = asks_after [] usage
 
+-- rows, grace and barred groups together
 abbrev pub rating_by : List (List (List ℕ)) → ℕ → List ℕ → Rating
 rating_by rates grace barred = record { rates = rates; grace = grace; barred = barred }
 
@@ -101,9 +106,11 @@ abbrev pub deadline_by : ℕ → ℕ → Option Terms → Option ℕ
 deadline_by grace stamp None = None
 deadline_by grace stamp (Some t) = if t.validity == 0 then None else Some (min (stamp + t.validity + grace) 3155759999)
 
+-- the terms of a group, where it has a tariff
 abbrev pub terms_of : List (List (List ℕ)) → ℕ → Option Terms
 terms_of rates group = option_map (λ t. t.terms) (tariff rates group)
 
+-- until when a grant of a group is set aside, where it has an end
 abbrev pub deadline_of : Rating → ℕ → ℕ → Option ℕ
 deadline_of rating stamp group = deadline_by rating.grace stamp (terms_of rating.rates group)
 
@@ -146,6 +153,7 @@ for_volume Volume threshold = threshold
 for_volume Time threshold = None
 for_volume Offline threshold = None
 
+-- a threshold is one of time where the group is rated by time
 abbrev pub for_time : Kind → Option ℕ → Option ℕ
 for_time Volume threshold = None
 for_time Time threshold = threshold
@@ -170,6 +178,7 @@ quota_info rates stamp group t g = record {
   triggers = [];
 }
 
+-- whether a result code grants something (TS 32.291, 6.1.6.3.14)
 abbrev pub is_success : Code → Bool
 is_success Success = true
 is_success Denied = false
@@ -177,10 +186,12 @@ is_success Rattle.units.specs.declared.answer.Code.TheVariants.NotApplicable = f
 is_success Rattle.units.specs.declared.answer.Code.TheVariants.LimitReached = false
 is_success Rattle.units.specs.declared.answer.Code.TheVariants.RatingFailed = false
 
+-- what is said of a group: its quota where something is granted, else its result code alone
 abbrev pub info_by : List (List (List ℕ)) → ℕ → ℕ → Grant → Option Terms → UnitInfo
 info_by rates stamp group g None = bare group g.code
 info_by rates stamp group g (Some t) = if is_success g.code then quota_info rates stamp group t g else bare group g.code
 
+-- what is said of a group that asks
 abbrev pub info_of : Rating → ℕ → GroupAsk → Grant → UnitInfo
 info_of rating stamp a g = info_by rating.rates stamp a.group g (terms_of rating.rates a.group)
 

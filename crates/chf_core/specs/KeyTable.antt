@@ -9,9 +9,11 @@ use Rattle.chf_core.specs.declared.numbered.NumberedKey.{NumberedKey}
 use Rattle.chf_core.specs.declared.key_table.KeyTable.{KeyTable}
 use Rattle.chf_core.specs.Operator.{number_in}
 
+-- two names are of one session
 abbrev pub name_test : NumberedName → NumberedName → Bool
 name_test a b = a.consumer == b.consumer && a.charging_id == b.charging_id
 
+-- two keys are of one request
 abbrev pub key_test : NumberedKey → NumberedKey → Bool
 key_test a b = a.consumer == b.consumer && (a.charging_id == b.charging_id && a.number == b.number)
 
@@ -19,6 +21,7 @@ key_test a b = a.consumer == b.consumer && (a.charging_id == b.charging_id && a.
 abbrev pub numbered_name : ℕ → Name → NumberedName
 numbered_name consumer n = record { consumer = consumer; charging_id = n.charging_id }
 
+-- a key with the number of its consumer in place of its name
 abbrev pub numbered_key : ℕ → Key → NumberedKey
 numbered_key consumer k = record { consumer = consumer; charging_id = k.session.charging_id; number = k.number }
 
@@ -26,6 +29,7 @@ numbered_key consumer k = record { consumer = consumer; charging_id = k.session.
 abbrev pub kept_place : KeyTable → Key → Option ℕ
 kept_place v k = option_and_then (λ n. get key_test v.places (numbered_key n k)) (number_in v.consumers.list k.session.consumer)
 
+-- the reference that is kept of a session's name
 abbrev pub kept_reference : KeyTable → Name → Option ℕ
 kept_reference v name = option_and_then (λ n. get name_test v.references (numbered_name n name)) (number_in v.consumers.list name.consumer)
 

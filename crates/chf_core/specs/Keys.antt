@@ -16,6 +16,7 @@ use Rattle.chf_core.specs.Sessions.{id_of, session_at, same_session, name}
 abbrev pub key : List ℕ → ℕ → ℕ → Key
 key consumer charging_id number = record { session = name consumer charging_id; number = number }
 
+-- two keys are the same: one session, one number
 abbrev pub key_eq : Key → Key → Bool
 key_eq j k = same_session j.session k.session && j.number == k.number
 
@@ -24,14 +25,17 @@ abbrev pub key_in : Request → Option Session → Option Key
 key_in q None = None
 key_in q (Some s) = if name_eq s.consumer q.consumer then Some (key q.consumer s.charging_id q.number) else None
 
+-- the key of a request by its operation: a Create has its own charging id
 abbrev pub key_by : Operation → List Command → Request → Option Key
 key_by Create commands q = Some (key q.consumer (id_of q.charging_id) q.number)
 key_by (Update reference) commands q = key_in q (session_at commands reference)
 key_by (Release reference) commands q = key_in q (session_at commands reference)
 
+-- the key of a request; it has none where its session is not known
 abbrev pub key_of : List Command → Request → Option Key
 key_of commands q = key_by q.operation commands q
 
+-- a key is there and is this one
 abbrev pub is_key : Option Key → Key → Bool
 is_key None k = false
 is_key (Some j) k = key_eq j k

@@ -25,6 +25,7 @@ abbrev pub lines_for : List (List (List ℕ)) → Request → Option Target → 
 lines_for rates q None = []
 lines_for rates q (Some t) = lines_of rates t q.usage
 
+-- the lines of all requests, the oldest first
 abbrev pub ledger : List Command → List Line
 ledger [] = []
 ledger (Setup setup ∷ before) = ledger before

@@ -45,6 +45,7 @@ abbrev pub new_session : Request → Option ℕ → Option Session
 new_session q None = None
 new_session q (Some account) = Some (record { consumer = q.consumer; charging_id = id_of q.charging_id; supi = supi_of q.subscriber; account = account; last = q.number; is_open = true })
 
+-- the session that a request opens
 abbrev pub session_by : Operation → Request → Option ℕ → Option Session
 session_by Create q account = new_session q account
 session_by (Update reference) q account = None
@@ -73,6 +74,7 @@ pub record CanCharge (s : State) (account amount : ℕ) : Type 0 where
   pub known : account < length s.accounts
   pub sums : (numbers s account).taken + (numbers s account).owed + amount < 2 ^ 127
 
+-- an account can be topped up by an amount
 pub record CanTopUp (s : State) (account amount : ℕ) : Type 0 where
   pub known : account < length s.accounts
   pub sums : (numbers s account).topups + amount < 2 ^ 128

@@ -13,6 +13,7 @@ pub record IsMoved (commands : List Command) : Type 0 where
   pub made : money commands ≡ state_of (account_moves commands)
   pub allowed : AreAllowed (account_moves commands)
 
+-- After each list of commands the accounts are those of its moves, each of which was allowed.
 abbrev pub AccountsAreMoved : Type 0
 AccountsAreMoved = (commands : List Command) → IsMoved commands
 

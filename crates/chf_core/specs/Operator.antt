@@ -63,6 +63,7 @@ abbrev pub barred_in : Option Subscription → List ℕ
 barred_in None = []
 barred_in (Some s) = s.barred
 
+-- whether a group is among the barred ones
 abbrev pub bars : List ℕ → ℕ → Bool
 bars barred group = list_any (λ b. b == group) barred
 

@@ -14,6 +14,7 @@ abbrev pub account_for : List Command → Option (List ℕ) → Option ℕ
 account_for commands None = None
 account_for commands (Some supi) = account_of commands supi
 
+-- the subscriber that a Create names
 abbrev pub supi_of : Option (List ℕ) → List ℕ
 supi_of None = []
 supi_of (Some supi) = supi
@@ -27,6 +28,7 @@ id_of (Some id) = id
 abbrev pub with_last : ℕ → Bool → Session → Session
 with_last number is_open s = record s { last = number; is_open = is_open }
 
+-- a known session goes on with this number, open or closed
 abbrev pub write_session : List Session → ℕ → ℕ → Bool → Option Session → List Session
 write_session sessions reference number is_open None = sessions
 write_session sessions reference number is_open (Some s) = slice_set sessions (reference - 1) (with_last number is_open s)
@@ -40,6 +42,7 @@ abbrev pub opened : Request → Option ℕ → List Session → List Session
 opened q None sessions = sessions
 opened q (Some account) sessions = sessions ++ record { consumer = q.consumer; charging_id = id_of q.charging_id; supi = supi_of q.subscriber; account = account; last = q.number; is_open = true } ∷ []
 
+-- the sessions after an accepted request
 abbrev pub sessions_after : Operation → Request → Option ℕ → List Session → List Session
 sessions_after Create q account sessions = opened q account sessions
 sessions_after (Update reference) q account sessions = write_session sessions reference q.number true (by_reference sessions reference)
@@ -54,6 +57,7 @@ sessions (Subscriber supi account barred ∷ before) = sessions before
 sessions (TopUp id account amount ∷ before) = sessions before
 sessions (Expire moment ∷ before) = sessions before
 
+-- the session with a reference after these commands
 abbrev pub session_at : List Command → ℕ → Option Session
 session_at commands reference = by_reference (sessions commands) reference
 
@@ -61,6 +65,7 @@ session_at commands reference = by_reference (sessions commands) reference
 abbrev pub name : List ℕ → ℕ → Name
 name consumer charging_id = record { consumer = consumer; charging_id = charging_id }
 
+-- two names are of one session: one consumer, one charging id
 abbrev pub same_session : Name → Name → Bool
 same_session m n = name_eq m.consumer n.consumer && m.charging_id == n.charging_id
 
@@ -70,6 +75,7 @@ opens_by Create account = is_some account
 opens_by (Update reference) account = false
 opens_by (Release reference) account = false
 
+-- whether a request, after these commands, opens a session
 abbrev pub opens : List Command → Request → Bool
 opens before q = opens_by q.operation (account_for before q.subscriber)
 
@@ -82,6 +88,7 @@ reference_of (Subscriber supi account barred ∷ before) n = reference_of before
 reference_of (TopUp id account amount ∷ before) n = reference_of before n
 reference_of (Expire moment ∷ before) n = reference_of before n
 
+-- the session of a reference, where there is one
 abbrev pub session_for : List Command → Option ℕ → Option Session
 session_for commands None = None
 session_for commands (Some reference) = session_at commands reference

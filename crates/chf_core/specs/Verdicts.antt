@@ -21,6 +21,7 @@ RefusesRequest (SequencePassed last) = ⊤
 RefusesRequest UnknownReference = ⊤
 RefusesRequest TopUpDiffers = ⊥
 
+-- the refusals that a top-up may get
 abbrev pub RefusesTopUp : ChfRefusal → Type 0
 RefusesTopUp UnknownAccount = ⊤
 RefusesTopUp SessionExists = ⊥
@@ -43,6 +44,7 @@ IsOfOperator Known = ⊤
 IsOfOperator (Refused refusal) = RefusesTopUp refusal
 IsOfOperator (Fresh o) = o ≡ outcome.Done
 
+-- a verdict is one that this command may get
 abbrev pub IsOfCommand : List Command → Command → Verdict → Type 0
 IsOfCommand commands (Setup setup) v = IsOfOperator v
 IsOfCommand commands (Charge q) v = IsOfRequest commands v

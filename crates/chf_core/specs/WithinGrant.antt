@@ -72,6 +72,7 @@ abbrev pub units_in : Kind → ℕ → List UnitUsage → ℕ
 units_in kind group [] = 0
 units_in kind group (u ∷ usage) = (if u.group == group then units_of_used kind u.used else 0) + units_in kind group usage
 
+-- the units that a request uses of one group of one session
 abbrev pub units_for : Kind → ℕ → ℕ → Request → Option Target → ℕ
 units_for kind session group q None = 0
 units_for kind session group q (Some t) = if t.session == session then units_in kind group q.usage else 0

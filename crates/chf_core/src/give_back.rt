@@ -5,14 +5,16 @@ ghost use Rattle.chf_core.specs.Admits.{Leaves};
 
 use crate::target::Target;
 use accounts::Accounts;
-use units::{Text, UnitUsage, Used};
+use units::{Text, TriggerType, UnitUsage, Used, name_of_type};
 
 // Whether triggers hold the final units or the quota holding time.
 fn has_final(triggers: &[Text]) -> bool
     ensures { result ≡ has_final triggers.now }
 {
     for trigger in triggers {
-        if trigger.as_str() == "QHT" || trigger.as_str() == "FINAL" {
+        if trigger.as_str() == name_of_type(TriggerType::QuotaHoldingTime)
+            || trigger.as_str() == name_of_type(TriggerType::Final)
+        {
             return true;
         }
     }

@@ -15,7 +15,8 @@ use accounts::moves_change_free;
 use rating::Tariffs;
 use std::alloc::Global;
 use units::{
-    Answer, List, Moment, Operation, OutOfMemory, Problem, Reply, Request, Text, UnitInfo,
+    Answer, Cause, List, Moment, Operation, OutOfMemory, Problem, Reply, Request, Text, UnitInfo,
+    name_of_cause,
 };
 
 fn user_unknown(alloc: Global) -> Result<Reply, OutOfMemory>
@@ -24,7 +25,7 @@ fn user_unknown(alloc: Global) -> Result<Reply, OutOfMemory>
     Ok(Reply::Refused {
         problem: Problem {
             status: 404,
-            cause: Text::from_text(alloc, "USER_UNKNOWN")?,
+            cause: Text::from_text(alloc, name_of_cause(Cause::UserUnknown))?,
             detail: None,
         },
     })

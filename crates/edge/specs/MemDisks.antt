@@ -14,9 +14,11 @@ use Rattle.edge.specs.declared.memory_disk.MemDisk.{MemDisk}
 abbrev pub store_of : MemDisk → Stored
 store_of disk = disk.store
 
+-- what it is told of its calls to come
 abbrev pub calls_of : MemDisk → Calls
 calls_of disk = disk.script
 
+-- its epoch
 abbrev pub epoch_of : MemDisk → ℕ
 epoch_of disk = disk.own
 

@@ -3,9 +3,11 @@ use Rattle.std.specs.Prelude.{◌≡◌, ℕ, List, Some, None, refl}
 use Rattle.std.proofs.Common.{subst, arith}
 use Rattle.edge.specs.Stored.{Stored, IsImageOf}
 
+-- the bytes themselves are an image
 image_self : (s : Stored) → IsImageOf s s.bytes
 image_self s = record { no_shorter = omega arith; no_longer = omega arith; same = λ k a b c. refl }
 
+-- what is told is what there is
 some_is : (a b : List ℕ) → Some a ≡ Some b → a ≡ b
 some_is a b e = cc
 

@@ -44,6 +44,7 @@ pub record AreKept (containers : List Container) (counts : List GroupCount) (mom
   pub groups : map (λ g. g.group) counts ≡ fold with_group [] (map (λ c. c.group) containers)
   pub each : AllByRecursion (IsCountOf containers) counts
 
+-- what came of the session
 abbrev pub contents_of : Inside → Contents
 contents_of m = record { containers = m.containers.items; closes = m.closes.items; horizons = m.horizons.items }
 
@@ -55,6 +56,7 @@ seen m = record {
       min (min (vec_capacity m.containers - vec_len m.containers) (vec_capacity m.closes - vec_len m.closes)) (vec_capacity m.counts - vec_len m.counts);
 }
 
+-- what a meter keeps says what came of the session
 pub record IsSound (m : Inside) : Type 0 where
   pub kept : AreKept m.containers.items m.counts.items m.last m.total
   pub closes : length m.closes.items ≡ length m.containers.items

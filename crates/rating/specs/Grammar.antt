@@ -30,6 +30,7 @@ suits Offline period = true
 abbrev pub may_extend : GroupTariff → Period → Bool
 may_extend t period = suits t.terms.kind period && list_all (λ p. nat_lt p.hour period.hour) t.periods
 
+-- the group of a price row is there, and the row may follow its others
 abbrev pub may_extend_some : Option GroupTariff → Period → Bool
 may_extend_some None period = false
 may_extend_some (Some t) period = may_extend t period
@@ -67,6 +68,7 @@ abbrev pub answer_by : List (List (List ℕ)) → Option ℕ → Result (List (L
 answer_by rows None = Ok rows
 answer_by rows (Some row) = Err (BadRow row)
 
+-- what reading some rows answers
 abbrev pub read_answer : List (List (List ℕ)) → Result (List (List (List ℕ))) RatingRefusal
 read_answer rows = answer_by rows (first_bad [] rows)
 

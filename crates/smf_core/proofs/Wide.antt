@@ -26,7 +26,7 @@ use Rattle.smf_core.specs.declared.event.SmfEvent.{SmfEvent}
 use Rattle.smf_core.specs.declared.event.SmfEvent.TheVariants.{Attach, Start, Count, Change, Tick, Detach, Answered}
 use Rattle.meter.specs.Horizons.{has_unsafe}
 use Rattle.quotas.specs.Due.{due_of, in_open}
-use Rattle.smf_core.specs.Names.{is_immediate_by_default}
+use Rattle.smf_core.specs.Categories.{is_immediate_by_default}
 use Rattle.units.specs.declared.trigger.TriggerType.TheVariants.{VolumeLimit, TimeLimit, MaxNumberOfChangesInChargingConditions}
 use Rattle.smf_core.specs.Rules.{is_immediate, is_immediate_for, limits_of, changes_of, within, rule_for, or_earlier, category_in}
 use Rattle.std.specs.Prelude.{option_and_then, fold}

@@ -7,13 +7,13 @@ use Rattle.units.specs.declared.request.Request.{Request}
 use Rattle.sessions.specs.Kept.{occurs_in}
 use Rattle.sessions.specs.Trace.{Move, closed_as, IsWaiting}
 use Rattle.sessions.specs.Trace.Move.{Freezes}
-use Rattle.smf_core.specs.Names.{name_of}
+use Rattle.units.specs.Words.{name_of_type}
 use Rattle.smf_core.specs.Settle.{is_waiting}
 use Rattle.smf_core.specs.Places.{place_of}
 
 -- a closed container as a request carries it
 abbrev pub used_closed : Closed → Used
-used_closed c = record { lsn = c.container.lsn; group = c.container.group; up = c.container.up; down = c.container.down; seconds = c.container.seconds; first = c.container.first; last = c.container.last; triggers = name_of c.trigger ∷ []; moment = c.moment }
+used_closed c = record { lsn = c.container.lsn; group = c.container.group; up = c.container.up; down = c.container.down; seconds = c.container.seconds; first = c.container.first; last = c.container.last; triggers = name_of_type c.trigger ∷ []; moment = c.moment }
 
 -- a container in the entry of a rating group is one of that group, as it was closed
 pub record IsHeld (trace : List Move) (group : ℕ) (x : Used) : Type 0 where

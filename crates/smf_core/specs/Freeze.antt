@@ -20,7 +20,7 @@ use Rattle.smf_core.specs.declared.session.Place.TheVariants.{Frozen, GivenUp}
 use Rattle.smf_core.specs.declared.session.Holding.{Holding}
 use Rattle.smf_core.specs.declared.session.Entry.{Entry}
 use Rattle.smf_core.specs.declared.session.Session.{Session}
-use Rattle.smf_core.specs.Names.{name_of}
+use Rattle.units.specs.Words.{name_of_type}
 use Rattle.smf_core.specs.Rules.{changes_of}
 use Rattle.smf_core.specs.Settle.{is_waiting, is_frozen}
 
@@ -70,7 +70,7 @@ next_operation setup s = if is_some s.request then None else operation_in setup 
 -- the names of a container's triggers
 abbrev pub names_of : Option TriggerType → List (List ℕ)
 names_of None = []
-names_of (Some trigger) = name_of trigger ∷ []
+names_of (Some trigger) = name_of_type trigger ∷ []
 
 -- a container as a request carries it (TS 32.291, 6.1.6.2.1.4)
 abbrev pub used_as : Holding → Used
@@ -105,7 +105,7 @@ is_aborting other = false
 
 -- the Release of a session that ends abnormally says so
 abbrev pub triggers_of : Operation → Life → List (List ℕ)
-triggers_of operation life = if is_release operation && is_aborting life then name_of AbnormalRelease ∷ [] else []
+triggers_of operation life = if is_release operation && is_aborting life then name_of_type AbnormalRelease ∷ [] else []
 
 -- the request: the next number, the stamp of its freezing, and the oldest 500 waiting containers (TS 32.291, 6.1.6.2.1.1)
 abbrev pub request_of : SmfSetup → ℕ → Session → Operation → Request

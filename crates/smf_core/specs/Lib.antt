@@ -1,4 +1,4 @@
-pub mod Names
+pub mod Categories
 pub mod Rules
 pub mod Settle
 pub mod Freeze

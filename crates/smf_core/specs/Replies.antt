@@ -1,5 +1,5 @@
 -- Replies to the unanswered request: which are final, and what they make of the session (TS 32.290, 5.3.2 and quota management; TS 32.291, 6.1.7).
-use Rattle.std.specs.Prelude.{ℕ, ◌==◌, ◌&&◌, ◌||◌, Bool, true, false, if◌then◌else◌, Option, Some, None, is_some, unwrap_or, List, [], ◌∷◌, ◌++◌, map, codes, bytes_eq}
+use Rattle.std.specs.Prelude.{ℕ, ◌==◌, ◌&&◌, ◌||◌, Bool, true, false, if◌then◌else◌, Option, Some, None, is_some, unwrap_or, List, [], ◌∷◌, ◌++◌, map, bytes_eq}
 use Rattle.std.specs.List.{find}
 use Rattle.units.specs.declared.request.Operation.{Operation}
 use Rattle.units.specs.declared.request.Operation.TheVariants.{Create, Update, Release}
@@ -9,6 +9,9 @@ use Rattle.units.specs.declared.answer.UnitInfo.{UnitInfo}
 use Rattle.units.specs.declared.reply.Problem.{Problem}
 use Rattle.units.specs.declared.reply.Reply.{Reply}
 use Rattle.units.specs.declared.reply.Reply.TheVariants.{Created, Updated, Released, Refused}
+use Rattle.units.specs.declared.words.Cause.{Cause}
+use Rattle.units.specs.declared.words.Cause.TheVariants.{SequencePassed, InvalidMessage, MandatoryMissing, MandatoryIncorrect, OptionalIncorrect, UserUnknown, SessionExists, SessionClosed}
+use Rattle.units.specs.Words.{name_of_cause}
 use Rattle.meter.specs.declared.horizon.Horizon.{Horizon}
 use Rattle.quotas.specs.Quota.{answered}
 use Rattle.smf_core.specs.declared.session.Why.TheVariants.{Refused as WasRefused}
@@ -21,16 +24,21 @@ use Rattle.smf_core.specs.Rules.{or_earlier}
 use Rattle.smf_core.specs.Settle.{is_frozen}
 use Rattle.smf_core.specs.Traffic.{ended, ended_for}
 
--- the refusals that end a session (this product's own profile of TS 32.291, 6.1.7)
+-- a text is the name of this cause (TS 32.291, 6.1.7)
+abbrev pub is_named : List ℕ → Cause → Bool
+is_named text cause = bytes_eq text (name_of_cause cause)
+
+-- the causes of a bad request that no repeat mends (this product's own profile of TS 32.291, 6.1.7)
 abbrev pub is_bad_request : List ℕ → Bool
 is_bad_request cause =
-    bytes_eq cause (codes "SEQUENCE_PASSED") || (bytes_eq cause (codes "INVALID_MSG_FORMAT") || (bytes_eq cause (codes "MANDATORY_IE_MISSING")
-    || (bytes_eq cause (codes "MANDATORY_IE_INCORRECT") || bytes_eq cause (codes "OPTIONAL_IE_INCORRECT"))))
+    is_named cause SequencePassed || (is_named cause InvalidMessage || (is_named cause MandatoryMissing
+    || (is_named cause MandatoryIncorrect || is_named cause OptionalIncorrect)))
 
+-- the refusals that end a session (this product's own profile of TS 32.291, 6.1.7)
 abbrev pub is_final_refusal : Problem → Bool
 is_final_refusal p =
-    ((p.status == 404) && bytes_eq p.cause (codes "USER_UNKNOWN"))
-    || (((p.status == 403) && (bytes_eq p.cause (codes "SESSION_EXISTS") || bytes_eq p.cause (codes "SESSION_CLOSED")))
+    ((p.status == 404) && is_named p.cause UserUnknown)
+    || (((p.status == 403) && (is_named p.cause SessionExists || is_named p.cause SessionClosed))
     || ((p.status == 400) && is_bad_request p.cause))
 
 -- a final reply to a request: the success of its operation, with its number where the reply has one, or one of those refusals

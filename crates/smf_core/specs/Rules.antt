@@ -9,7 +9,7 @@ use Rattle.quotas.specs.declared.state.Limits.{Limits}
 use Rattle.smf_core.specs.declared.setup.SmfSetup.{SmfSetup}
 use Rattle.smf_core.specs.declared.session.Layer.{Layer}
 use Rattle.smf_core.specs.declared.session.Session.{Session}
-use Rattle.smf_core.specs.Names.{same_type, is_immediate_by_default}
+use Rattle.smf_core.specs.Categories.{same_type, is_immediate_by_default}
 
 -- of several rules of one type in one list the first counts
 abbrev pub rule_in : TriggerType → List TriggerRule → Option TriggerRule

@@ -4,7 +4,7 @@ ghost use Rattle.std.specs.List.{find};
 ghost use Rattle.std.specs.Option.{option_copied};
 ghost use Rattle.smf_core.specs.Caches.{AddsLayers, layers_by, layers_for, layers_added};
 ghost use Rattle.smf_core.specs.Draft.{whole};
-ghost use Rattle.smf_core.specs.Replies.{is_bad_request, is_final_refusal, is_final_for, is_answer_to, answer_holding, info_of, horizon_after, answer_entry, group_layers, layers_of, succeeded, released, replied, answered_by};
+ghost use Rattle.smf_core.specs.Replies.{is_named, is_bad_request, is_final_refusal, is_final_for, is_answer_to, answer_holding, info_of, horizon_after, answer_entry, group_layers, layers_of, succeeded, released, replied, answered_by};
 
 use crate::draft::{Draft, Pending, request_of, rules_of};
 use crate::event::SmfEvent;
@@ -14,26 +14,33 @@ use crate::traffic::{end, end_for};
 use meter::Horizon;
 use std::alloc::Global;
 use units::{
-    Answer, List, Moment, Operation, OutOfMemory, Problem, Reply, Request, TriggerRule, UnitInfo,
-    copy,
+    Answer, Cause, List, Moment, Operation, OutOfMemory, Problem, Reply, Request, TriggerRule,
+    UnitInfo, copy, name_of_cause,
 };
+
+fn is_named(text: &str, cause: Cause) -> bool
+    ensures { result ≡ is_named text.now cause }
+{
+    text == name_of_cause(cause)
+}
 
 fn is_bad_request(cause: &str) -> bool
     ensures { result ≡ is_bad_request cause.now }
 {
-    cause == "SEQUENCE_PASSED"
-        || cause == "INVALID_MSG_FORMAT"
-        || cause == "MANDATORY_IE_MISSING"
-        || cause == "MANDATORY_IE_INCORRECT"
-        || cause == "OPTIONAL_IE_INCORRECT"
+    is_named(cause, Cause::SequencePassed)
+        || is_named(cause, Cause::InvalidMessage)
+        || is_named(cause, Cause::MandatoryMissing)
+        || is_named(cause, Cause::MandatoryIncorrect)
+        || is_named(cause, Cause::OptionalIncorrect)
 }
 
 fn is_final_refusal(problem: &Problem) -> bool
     ensures { result ≡ is_final_refusal problem.now }
 {
     let cause = problem.cause.as_str();
-    problem.status == 404 && cause == "USER_UNKNOWN"
-        || problem.status == 403 && (cause == "SESSION_EXISTS" || cause == "SESSION_CLOSED")
+    problem.status == 404 && is_named(cause, Cause::UserUnknown)
+        || problem.status == 403
+            && (is_named(cause, Cause::SessionExists) || is_named(cause, Cause::SessionClosed))
         || problem.status == 400 && is_bad_request(cause)
 }
 

@@ -7,13 +7,13 @@ ghost use Rattle.smf_core.specs.Settle.{is_waiting, is_frozen};
 ghost use Rattle.smf_core.specs.Freeze.{waiting_count, move_oldest, dropped, is_wanting, live_operation, ending_operation, operation_in, next_operation, names_of, used_as, is_frozen_of, used_of, ask_of, usage_of, says_something, usages, is_aborting, triggers_of, request_of as request_made, freeze_entry, with_request, freeze_by, freeze_due};
 
 use crate::draft::{Draft, Pending, request_of};
-use crate::names::name;
 use crate::rules::changes_for;
 use crate::session::{Entry, Holding, Life, Place, Session, Why};
 use crate::setup::SmfSetup;
 use std::alloc::Global;
 use units::{
     Ask, List, Moment, Operation, OutOfMemory, Request, Text, TriggerType, UnitUsage, Used, copy,
+    name_of_type,
 };
 
 pub fn is_waiting_place(place: Place) -> bool
@@ -134,7 +134,7 @@ fn names(alloc: Global, trigger: Option<TriggerType>) -> Result<List<Text>, OutO
 {
     let mut list = List::new(alloc);
     if let Some(trigger) = trigger {
-        list.push(Text::from_text(alloc, name(trigger))?)?;
+        list.push(Text::from_text(alloc, name_of_type(trigger))?)?;
     }
     Ok(list)
 }
@@ -215,7 +215,7 @@ fn triggers_for(alloc: Global, operation: Operation, life: Life) -> Result<List<
 {
     let mut list = List::new(alloc);
     if matches!(operation, Operation::Release(_)) && matches!(life, Life::Aborting) {
-        list.push(Text::from_text(alloc, name(TriggerType::AbnormalRelease))?)?;
+        list.push(Text::from_text(alloc, name_of_type(TriggerType::AbnormalRelease))?)?;
     }
     Ok(list)
 }

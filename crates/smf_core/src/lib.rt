@@ -17,6 +17,7 @@
 #![tactic(auto)]
 
 mod answers;
+mod categories;
 mod change;
 mod checks;
 mod draft;
@@ -25,7 +26,6 @@ mod freeze;
 mod index;
 mod kept;
 mod laws;
-mod names;
 mod next;
 mod plan;
 mod refusal;

@@ -13,6 +13,7 @@ use Rattle.units.specs.declared.words.Cause.TheVariants as cause
 
 -- ---- trigger types (TS 32.291, 6.1.6.3.6)
 
+-- a type as written
 abbrev pub name_of_type : TriggerType → List ℕ
 name_of_type Final = codes "FINAL"
 name_of_type QuotaExhausted = codes "QUOTA_EXHAUSTED"
@@ -49,6 +50,7 @@ type_named text = first_named text types
 
 -- ---- categories (TS 32.291, 6.1.6.3.7)
 
+-- a category as written; the immediate one is `true`
 abbrev pub name_of_category : Bool → List ℕ
 name_of_category true = codes "IMMEDIATE_REPORT"
 name_of_category false = codes "DEFERRED_REPORT"
@@ -59,6 +61,7 @@ is_immediate text = if bytes_eq text (codes "IMMEDIATE_REPORT") then Some true e
 
 -- ---- result codes (TS 32.291, 6.1.6.3.14)
 
+-- a result code as written
 abbrev pub name_of_code : Code → List ℕ
 name_of_code Success = codes "SUCCESS"
 name_of_code Denied = codes "END_USER_SERVICE_DENIED"
@@ -77,11 +80,13 @@ code_named text =
 
 -- ---- actions of a final unit indication (TS 32.291, 6.1.6.3.4)
 
+-- an action as written
 abbrev pub name_of_action : Action → List ℕ
 name_of_action action.Terminate = codes "TERMINATE"
 name_of_action action.Redirect = codes "REDIRECT"
 name_of_action action.RestrictAccess = codes "RESTRICT_ACCESS"
 
+-- the action of this name
 abbrev pub action_named : List ℕ → Option Action
 action_named text =
     if bytes_eq text (codes "TERMINATE") then Some action.Terminate
@@ -91,11 +96,13 @@ action_named text =
 
 -- ---- failure handlings (TS 32.291, 6.1.6.3.12)
 
+-- a failure handling as written
 abbrev pub name_of_handling : Handling → List ℕ
 name_of_handling handling.Terminate = codes "TERMINATE"
 name_of_handling handling.Continue = codes "CONTINUE"
 name_of_handling handling.RetryAndTerminate = codes "RETRY_AND_TERMINATE"
 
+-- the failure handling of this name
 abbrev pub handling_named : List ℕ → Option Handling
 handling_named text =
     if bytes_eq text (codes "TERMINATE") then Some handling.Terminate
@@ -105,10 +112,12 @@ handling_named text =
 
 -- ---- whether session failover is supported (TS 32.291, 6.1.6.3.13)
 
+-- as written; `true` is supported
 abbrev pub name_of_failover : Bool → List ℕ
 name_of_failover true = codes "FAILOVER_SUPPORTED"
 name_of_failover false = codes "FAILOVER_NOT_SUPPORTED"
 
+-- what a text of this name says
 abbrev pub failover_named : List ℕ → Option Bool
 failover_named text =
     if bytes_eq text (codes "FAILOVER_SUPPORTED") then Some true
@@ -117,6 +126,7 @@ failover_named text =
 
 -- ---- causes of problem details (TS 29.500, 5.2.7.2; TS 32.291, 6.1.7; some are this product's own)
 
+-- a cause as written
 abbrev pub name_of_cause : Cause → List ℕ
 name_of_cause cause.InvalidMessage = codes "INVALID_MSG_FORMAT"
 name_of_cause cause.MandatoryMissing = codes "MANDATORY_IE_MISSING"
