@@ -4,18 +4,18 @@ use Rattle.std.specs.Prelude.{Option, Some, None, option_map, slice_get, Ok}
 use Rattle.std.specs.List.{position_from}
 use Rattle.units.specs.declared.request.Operation.{Operation}
 use Rattle.units.specs.declared.request.Operation.TheVariants.{Create}
-use Rattle.smf_core.specs.declared.setup.SmfSetup.{SmfSetup}
-use Rattle.smf_core.specs.declared.session.Session.{Session}
-use Rattle.smf_core.specs.declared.session.Machine.{Machine}
-use Rattle.smf_core.specs.declared.event.SmfEvent.{SmfEvent}
-use Rattle.smf_core.specs.declared.event.SmfEvent.TheVariants.{Attach, Start, Count, Change as Changes, Tick, Detach, Answered}
-use Rattle.smf_core.specs.declared.refusal.Seen.TheVariants.{New}
+use Rattle.smf_model.specs.declared.setup.SmfSetup.{SmfSetup}
+use Rattle.smf_model.specs.declared.session.Session.{Session}
+use Rattle.smf_model.specs.declared.session.Machine.{Machine}
+use Rattle.smf_model.specs.declared.event.SmfEvent.{SmfEvent}
+use Rattle.smf_model.specs.declared.event.SmfEvent.TheVariants.{Attach, Start, Count, Change as Changes, Tick, Detach, Answered}
+use Rattle.smf_model.specs.declared.refusal.Seen.TheVariants.{New}
 use Rattle.smf_core.specs.declared.plan.Change.{Change}
 use Rattle.smf_core.specs.declared.plan.Next.{Next}
 use Rattle.smf_core.specs.declared.plan.Next.TheVariants.{Nothing, One, All}
-use Rattle.smf_core.specs.Settle.{settled}
-use Rattle.smf_core.specs.Freeze.{with_request, freeze_by, next_operation}
-use Rattle.smf_core.specs.Machine.{session_of, on_session, start_answer, count_answer, change_answer, detach_answer, reply_answer, attach_answer, answer_of, now_after, fresh, finished, added_by}
+use Rattle.smf_model.specs.Settle.{settled}
+use Rattle.smf_model.specs.Freeze.{with_request, freeze_by, next_operation}
+use Rattle.smf_model.specs.Machine.{session_of, on_session, start_answer, count_answer, change_answer, detach_answer, reply_answer, attach_answer, answer_of, now_after, fresh, finished, added_by}
 use Rattle.smf_core.specs.Lookup.{subject, session_for, answer_for}
 use Rattle.smf_core.specs.Index.{place_in, place_for}
 use Rattle.smf_core.specs.Caches.{KeptAs, numbers_of, sessions_of}

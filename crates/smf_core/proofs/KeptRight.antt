@@ -3,14 +3,14 @@ use Rattle.std.proofs.Common.{◌≡◌, ℕ, ◌+◌, ◌-◌, ◌≤◌, List,
 use Rattle.std.specs.Prelude.{Option, Some, None, Result, Ok, Err, IfOk}
 use Rattle.std.proofs.lemmas.List.{length-map}
 use Rattle.units.specs.declared.report.Container.{Container}
-use Rattle.smf_core.specs.declared.setup.SmfSetup.{SmfSetup}
-use Rattle.smf_core.specs.declared.session.Holding.{Holding}
-use Rattle.smf_core.specs.declared.session.Layer.{Layer}
-use Rattle.smf_core.specs.declared.session.Session.{Session}
-use Rattle.smf_core.specs.declared.event.SmfEvent.{SmfEvent}
+use Rattle.smf_model.specs.declared.setup.SmfSetup.{SmfSetup}
+use Rattle.smf_model.specs.declared.session.Holding.{Holding}
+use Rattle.smf_model.specs.declared.session.Layer.{Layer}
+use Rattle.smf_model.specs.declared.session.Session.{Session}
+use Rattle.smf_model.specs.declared.event.SmfEvent.{SmfEvent}
 use Rattle.smf_core.specs.declared.plan.RuleChange.{RuleChange}
 use Rattle.smf_core.specs.declared.plan.Change.{Change}
-use Rattle.smf_core.specs.Machine.{finished, effect}
+use Rattle.smf_model.specs.Machine.{finished, effect}
 use Rattle.smf_core.specs.Draft.{effect_past}
 use Rattle.smf_core.specs.Reads.{is_held, containers_of}
 use Rattle.smf_core.specs.Caches.{merged, past_count, places_from, put_places, live_after, wide, full, all_layers, said_after, layers_added, SaysSame, ChangesRules, IsMade, IsKept, session_with, after_change}

@@ -9,19 +9,19 @@ use Rattle.units.specs.declared.request.Operation.{Operation}
 use Rattle.units.specs.declared.request.Request.{Request}
 use Rattle.units.specs.declared.reply.Reply.{Reply}
 use Rattle.units.specs.declared.reply.Reply.TheVariants.{Created, Updated, Released, Refused}
-use Rattle.smf_core.specs.declared.setup.SmfSetup.{SmfSetup}
-use Rattle.smf_core.specs.declared.session.Why.TheVariants.{HeldFull, Refused as WasRefused}
-use Rattle.smf_core.specs.declared.session.Place.{Place}
-use Rattle.smf_core.specs.declared.session.Place.TheVariants.{Frozen, GivenUp}
-use Rattle.smf_core.specs.declared.session.Holding.{Holding}
-use Rattle.smf_core.specs.declared.session.Session.{Session}
-use Rattle.smf_core.specs.declared.event.SmfEvent.{SmfEvent}
-use Rattle.smf_core.specs.declared.event.SmfEvent.TheVariants.{Attach, Start, Count, Change, Tick, Detach, Answered}
-use Rattle.smf_core.specs.Settle.{is_waiting, is_open_of, open_of, entry_of, close_due, settled}
-use Rattle.smf_core.specs.Freeze.{waiting_count, move_oldest, next_operation, freeze_by, freeze_due}
-use Rattle.smf_core.specs.Traffic.{horizon_in, closes_before, close_of, extend_of, first_of, close_any, give_up, ended, detached}
-use Rattle.smf_core.specs.Replies.{answer_holding, replied, answered_by}
-use Rattle.smf_core.specs.Machine.{finished}
+use Rattle.smf_model.specs.declared.setup.SmfSetup.{SmfSetup}
+use Rattle.smf_model.specs.declared.session.Why.TheVariants.{HeldFull, Refused as WasRefused}
+use Rattle.smf_model.specs.declared.session.Place.{Place}
+use Rattle.smf_model.specs.declared.session.Place.TheVariants.{Frozen, GivenUp}
+use Rattle.smf_model.specs.declared.session.Holding.{Holding}
+use Rattle.smf_model.specs.declared.session.Session.{Session}
+use Rattle.smf_model.specs.declared.event.SmfEvent.{SmfEvent}
+use Rattle.smf_model.specs.declared.event.SmfEvent.TheVariants.{Attach, Start, Count, Change, Tick, Detach, Answered}
+use Rattle.smf_model.specs.Settle.{is_waiting, is_open_of, open_of, entry_of, close_due, settled}
+use Rattle.smf_model.specs.Freeze.{waiting_count, move_oldest, next_operation, freeze_by, freeze_due}
+use Rattle.smf_model.specs.Traffic.{horizon_in, closes_before, close_of, extend_of, first_of, close_any, give_up, ended, detached}
+use Rattle.smf_model.specs.Replies.{answer_holding, replied, answered_by}
+use Rattle.smf_model.specs.Machine.{finished}
 use Rattle.smf_core.specs.Draft.{joined_past, effect_past}
 
 length-moved : (n : ℕ) (p : Place) (hs : List Holding) → length (move_oldest n p hs) ≡ length hs

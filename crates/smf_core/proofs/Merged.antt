@@ -1,11 +1,11 @@
 -- What events do to the containers of a session they do to those that are held; the others stay.
 use Rattle.std.proofs.Common.{◌≡◌, ℕ, ◌+◌, ◌-◌, ◌≤◌, ◌==◌, ◌&&◌, ◌||◌, nat_lt, List, [], ◌∷◌, ◌++◌, length, map, filter, refl, sym, ◌∙◌, ap, arith, Bool, true, false, cond, Some, add-zero, fold}
 use Rattle.std.specs.List.{find, list_any}
-use Rattle.smf_core.specs.declared.session.Place.{Place}
-use Rattle.smf_core.specs.declared.session.Place.TheVariants.{Open, Waiting, Frozen, Answered, GivenUp}
-use Rattle.smf_core.specs.declared.session.Holding.{Holding}
-use Rattle.smf_core.specs.Settle.{is_open, is_waiting, is_frozen}
-use Rattle.smf_core.specs.Freeze.{move_oldest, waiting_count, used_of, used_as, is_frozen_of}
+use Rattle.smf_model.specs.declared.session.Place.{Place}
+use Rattle.smf_model.specs.declared.session.Place.TheVariants.{Open, Waiting, Frozen, Answered, GivenUp}
+use Rattle.smf_model.specs.declared.session.Holding.{Holding}
+use Rattle.smf_model.specs.Settle.{is_open, is_waiting, is_frozen}
+use Rattle.smf_model.specs.Freeze.{move_oldest, waiting_count, used_of, used_as, is_frozen_of}
 use Rattle.smf_core.specs.Reads.{is_held, is_held_at}
 use Rattle.smf_core.specs.Caches.{merged, past_count}
 

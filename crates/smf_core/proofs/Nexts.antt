@@ -5,12 +5,12 @@ use Rattle.std.specs.List.{list_any, position_from}
 use Rattle.std.proofs.Math.Seq.{take-suc-set}
 use Rattle.std.proofs.lemmas.List.{take_more, length-take, length-map, map-append}
 use Rattle.std.proofs.lemmas.Bool.{eqb-true}
-use Rattle.smf_core.specs.declared.setup.SmfSetup.{SmfSetup}
-use Rattle.smf_core.specs.declared.session.Session.{Session}
-use Rattle.smf_core.specs.declared.event.SmfEvent.{SmfEvent}
-use Rattle.smf_core.specs.declared.event.SmfEvent.TheVariants.{Attach, Start, Count, Change as Changes, Tick, Detach, Answered}
+use Rattle.smf_model.specs.declared.setup.SmfSetup.{SmfSetup}
+use Rattle.smf_model.specs.declared.session.Session.{Session}
+use Rattle.smf_model.specs.declared.event.SmfEvent.{SmfEvent}
+use Rattle.smf_model.specs.declared.event.SmfEvent.TheVariants.{Attach, Start, Count, Change as Changes, Tick, Detach, Answered}
 use Rattle.smf_core.specs.declared.plan.Change.{Change}
-use Rattle.smf_core.specs.Machine.{touches, effect, finished, next_session, is_live}
+use Rattle.smf_model.specs.Machine.{touches, effect, finished, next_session, is_live}
 use Rattle.smf_core.proofs.Indexed.{absent}
 use Rattle.smf_core.specs.Index.{place_in, AreApart, place_for}
 use Rattle.smf_core.specs.Lookup.{subject}

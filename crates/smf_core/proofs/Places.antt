@@ -3,7 +3,7 @@ use Rattle.std.proofs.Common.{◌≡◌, ℕ, ◌+◌, ◌≤◌, ◌<◌, List,
 use Rattle.std.proofs.lemmas.List.{map-append, length-append, drop_all}
 use Rattle.std.proofs.lemmas.Bool.{ltb-true, ltb-false}
 use Rattle.std.proofs.Math.Seq.{set-append_seam, drop-cons}
-use Rattle.smf_core.specs.declared.session.Holding.{Holding}
+use Rattle.smf_model.specs.declared.session.Holding.{Holding}
 use Rattle.smf_core.specs.Reads.{is_held}
 use Rattle.smf_core.specs.Caches.{merged, places_from, put_places, live_after, place_at}
 use Rattle.smf_core.proofs.Merged.{past, here}

@@ -7,8 +7,8 @@ use Rattle.std.proofs.lemmas.Bool.{ltb-false}
 use Rattle.units.specs.declared.trigger.TriggerType.{TriggerType}
 use Rattle.units.specs.declared.trigger.TriggerType.TheVariants.{VolumeLimit, TimeLimit, MaxNumberOfChangesInChargingConditions}
 use Rattle.units.specs.declared.trigger.TriggerRule.{TriggerRule}
-use Rattle.smf_core.specs.declared.session.Layer.{Layer}
-use Rattle.smf_core.specs.Rules.{rule_in, rule_for, or_earlier}
+use Rattle.smf_model.specs.declared.session.Layer.{Layer}
+use Rattle.smf_model.specs.Rules.{rule_in, rule_for, or_earlier}
 use Rattle.smf_core.specs.Caches.{says, SaysSame}
 
 nothing : (trigger : TriggerType) (rules : List TriggerRule) → nat_lt 0 (length rules) ≡ false → rule_in trigger rules ≡ None

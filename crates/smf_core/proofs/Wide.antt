@@ -12,31 +12,31 @@ use Rattle.units.specs.declared.answer.Answer.{Answer}
 use Rattle.units.specs.declared.reply.Reply.{Reply}
 use Rattle.units.specs.declared.reply.Reply.TheVariants.{Created, Updated, Released, Refused}
 use Rattle.meter.specs.Joining.{extended}
-use Rattle.smf_core.specs.declared.setup.SmfSetup.{SmfSetup}
-use Rattle.smf_core.specs.declared.session.Life.{Life}
-use Rattle.smf_core.specs.declared.session.Life.TheVariants.{Live, Ending, Aborting, Ended}
-use Rattle.smf_core.specs.declared.session.Why.{Why}
-use Rattle.smf_core.specs.declared.session.Why.TheVariants.{HeldFull, Refused as WasRefused}
-use Rattle.smf_core.specs.declared.session.Place.TheVariants.{Frozen, Answered as AnsweredPlace, GivenUp}
-use Rattle.smf_core.specs.declared.session.Holding.{Holding}
-use Rattle.smf_core.specs.declared.session.Entry.{Entry}
-use Rattle.smf_core.specs.declared.session.Layer.{Layer}
-use Rattle.smf_core.specs.declared.session.Session.{Session}
-use Rattle.smf_core.specs.declared.event.SmfEvent.{SmfEvent}
-use Rattle.smf_core.specs.declared.event.SmfEvent.TheVariants.{Attach, Start, Count, Change, Tick, Detach, Answered}
+use Rattle.smf_model.specs.declared.setup.SmfSetup.{SmfSetup}
+use Rattle.smf_model.specs.declared.session.Life.{Life}
+use Rattle.smf_model.specs.declared.session.Life.TheVariants.{Live, Ending, Aborting, Ended}
+use Rattle.smf_model.specs.declared.session.Why.{Why}
+use Rattle.smf_model.specs.declared.session.Why.TheVariants.{HeldFull, Refused as WasRefused}
+use Rattle.smf_model.specs.declared.session.Place.TheVariants.{Frozen, Answered as AnsweredPlace, GivenUp}
+use Rattle.smf_model.specs.declared.session.Holding.{Holding}
+use Rattle.smf_model.specs.declared.session.Entry.{Entry}
+use Rattle.smf_model.specs.declared.session.Layer.{Layer}
+use Rattle.smf_model.specs.declared.session.Session.{Session}
+use Rattle.smf_model.specs.declared.event.SmfEvent.{SmfEvent}
+use Rattle.smf_model.specs.declared.event.SmfEvent.TheVariants.{Attach, Start, Count, Change, Tick, Detach, Answered}
 use Rattle.meter.specs.Horizons.{has_unsafe}
 use Rattle.quotas.specs.Due.{due_of, in_open}
-use Rattle.smf_core.specs.Categories.{is_immediate_by_default}
+use Rattle.smf_model.specs.Categories.{is_immediate_by_default}
 use Rattle.units.specs.declared.trigger.TriggerType.TheVariants.{VolumeLimit, TimeLimit, MaxNumberOfChangesInChargingConditions}
-use Rattle.smf_core.specs.Rules.{is_immediate, is_immediate_for, limits_of, changes_of, within, rule_for, or_earlier, category_in}
+use Rattle.smf_model.specs.Rules.{is_immediate, is_immediate_for, limits_of, changes_of, within, rule_for, or_earlier, category_in}
 use Rattle.std.specs.Prelude.{option_and_then, fold}
 use Rattle.std.proofs.lemmas.List.Sums.{fold-append}
 use Rattle.std.proofs.lemmas.List.{length-map}
-use Rattle.smf_core.specs.Settle.{is_open, is_frozen, is_open_of, open_of, container_in, entry_of, due_with, due_in, due_at, fire, close, close_due, is_at_once, settled}
-use Rattle.smf_core.specs.Freeze.{waiting_count, move_oldest, dropped, live_operation, ending_operation, operation_in, next_operation, used_of, usages, usage_of, says_something, request_of, with_request, freeze_by, freeze_due}
-use Rattle.smf_core.specs.Traffic.{horizon_in, closes_before, close_of, extend_of, first_of, joined, started, counted, counted_by, close_any, has_open, is_change_at_once, changed, without_traffic, detached, ended, give_up, ended_for}
-use Rattle.smf_core.specs.Replies.{answer_holding, succeeded, released, replied, answered_by, layers_of}
-use Rattle.smf_core.specs.Machine.{effect, finished}
+use Rattle.smf_model.specs.Settle.{is_open, is_frozen, is_open_of, open_of, container_in, entry_of, due_with, due_in, due_at, fire, close, close_due, is_at_once, settled}
+use Rattle.smf_model.specs.Freeze.{waiting_count, move_oldest, dropped, live_operation, ending_operation, operation_in, next_operation, used_of, usages, usage_of, says_something, request_of, with_request, freeze_by, freeze_due}
+use Rattle.smf_model.specs.Traffic.{horizon_in, closes_before, close_of, extend_of, first_of, joined, started, counted, counted_by, close_any, has_open, is_change_at_once, changed, without_traffic, detached, ended, give_up, ended_for}
+use Rattle.smf_model.specs.Replies.{answer_holding, succeeded, released, replied, answered_by, layers_of}
+use Rattle.smf_model.specs.Machine.{effect, finished}
 use Rattle.smf_core.specs.Draft.{joined_past, counted_past, effect_past}
 use Rattle.smf_core.specs.Reads.{is_held}
 use Rattle.smf_core.specs.Caches.{merged, past_count, SaysSame, wide, layers_by, layers_for, layers_added}

@@ -1,19 +1,19 @@
 -- What is kept of a session for speed: only what is held is looked at as events come. Of the public clauses only those on plans name some of these.
 use Rattle.std.specs.Prelude.{◌≡◌, ℕ, ◌+◌, ◌-◌, nat_lt, Bool, if◌then◌else◌, Option, Some, None, List, [], ◌∷◌, ◌++◌, map, filter, length, slice_set, slice_index}
 use Rattle.units.specs.declared.trigger.TriggerType.{TriggerType}
-use Rattle.smf_core.specs.declared.session.Holding.{Holding}
-use Rattle.smf_core.specs.declared.session.Layer.{Layer}
-use Rattle.smf_core.specs.declared.session.Session.{Session}
+use Rattle.smf_model.specs.declared.session.Holding.{Holding}
+use Rattle.smf_model.specs.declared.session.Layer.{Layer}
+use Rattle.smf_model.specs.declared.session.Session.{Session}
 use Rattle.units.specs.declared.request.Request.{Request}
 use Rattle.units.specs.declared.reply.Reply.{Reply}
 use Rattle.units.specs.declared.reply.Reply.TheVariants.{Created, Updated, Released, Refused}
-use Rattle.smf_core.specs.declared.session.Entry.{Entry}
-use Rattle.smf_core.specs.declared.event.SmfEvent.{SmfEvent}
-use Rattle.smf_core.specs.declared.event.SmfEvent.TheVariants.{Answered}
-use Rattle.smf_core.specs.Replies.{layers_of}
-use Rattle.smf_core.specs.declared.setup.SmfSetup.{SmfSetup}
-use Rattle.smf_core.specs.Machine.{effect, finished}
-use Rattle.smf_core.specs.Rules.{category_in, volume_in, seconds_in, changes_in}
+use Rattle.smf_model.specs.declared.session.Entry.{Entry}
+use Rattle.smf_model.specs.declared.event.SmfEvent.{SmfEvent}
+use Rattle.smf_model.specs.declared.event.SmfEvent.TheVariants.{Answered}
+use Rattle.smf_model.specs.Replies.{layers_of}
+use Rattle.smf_model.specs.declared.setup.SmfSetup.{SmfSetup}
+use Rattle.smf_model.specs.Machine.{effect, finished}
+use Rattle.smf_model.specs.Rules.{category_in, volume_in, seconds_in, changes_in}
 use Rattle.smf_core.specs.declared.draft.Course.{Course}
 use Rattle.smf_core.specs.declared.draft.Pending.{Pending}
 use Rattle.smf_core.specs.declared.draft.Draft.{Draft}

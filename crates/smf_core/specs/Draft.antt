@@ -3,17 +3,17 @@ use Rattle.std.specs.Prelude.{ℕ, ◌+◌, List, [], ◌∷◌, ◌++◌, map, 
 use Rattle.std.specs.List.{list_any}
 use Rattle.units.specs.declared.report.Report.{Report}
 use Rattle.units.specs.declared.request.Request.{Request}
-use Rattle.smf_core.specs.declared.session.Holding.{Holding}
-use Rattle.smf_core.specs.declared.session.Session.{Session}
+use Rattle.smf_model.specs.declared.session.Holding.{Holding}
+use Rattle.smf_model.specs.declared.session.Session.{Session}
 use Rattle.smf_core.specs.declared.draft.Course.{Course}
 use Rattle.smf_core.specs.declared.draft.Draft.{Draft}
 use Rattle.smf_core.specs.declared.draft.Pending.{Pending}
 use Rattle.smf_core.specs.declared.draft.Pending.TheVariants.{Same, Nothing, New}
-use Rattle.smf_core.specs.declared.event.SmfEvent.{SmfEvent}
-use Rattle.smf_core.specs.declared.event.SmfEvent.TheVariants.{Count}
-use Rattle.smf_core.specs.Settle.{is_open_of, open_of, entry_of}
-use Rattle.smf_core.specs.Traffic.{horizon_in, closes_before, close_of, extend_of, first_of, counted}
-use Rattle.smf_core.specs.Machine.{effect}
+use Rattle.smf_model.specs.declared.event.SmfEvent.{SmfEvent}
+use Rattle.smf_model.specs.declared.event.SmfEvent.TheVariants.{Count}
+use Rattle.smf_model.specs.Settle.{is_open_of, open_of, entry_of}
+use Rattle.smf_model.specs.Traffic.{horizon_in, closes_before, close_of, extend_of, first_of, counted}
+use Rattle.smf_model.specs.Machine.{effect}
 
 -- the unanswered request
 abbrev pub request_after : Option Request → Pending → Option Request

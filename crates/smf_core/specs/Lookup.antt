@@ -1,13 +1,13 @@
 -- An event by its own session: the answer to it, which is that of the whole machine (this product's own).
 use Rattle.std.specs.Prelude.{ℕ, nat_lt, if◌then◌else◌, Option, Some, None, option_and_then, List, length, Result, Ok, Err}
-use Rattle.smf_core.specs.declared.session.Session.{Session}
-use Rattle.smf_core.specs.declared.event.SmfEvent.{SmfEvent}
-use Rattle.smf_core.specs.declared.event.SmfEvent.TheVariants.{Attach, Start, Count, Change, Tick, Detach, Answered}
-use Rattle.smf_core.specs.declared.refusal.Seen.{Seen}
-use Rattle.smf_core.specs.declared.refusal.Seen.TheVariants.{New}
-use Rattle.smf_core.specs.declared.refusal.SmfRefusal.{SmfRefusal}
-use Rattle.smf_core.specs.declared.refusal.SmfRefusal.TheVariants.{NoSession, SessionExists, TooManyGroups, MomentBack}
-use Rattle.smf_core.specs.Machine.{session_of, start_answer, count_answer, change_answer, detach_answer, reply_answer}
+use Rattle.smf_model.specs.declared.session.Session.{Session}
+use Rattle.smf_model.specs.declared.event.SmfEvent.{SmfEvent}
+use Rattle.smf_model.specs.declared.event.SmfEvent.TheVariants.{Attach, Start, Count, Change, Tick, Detach, Answered}
+use Rattle.smf_model.specs.declared.refusal.Seen.{Seen}
+use Rattle.smf_model.specs.declared.refusal.Seen.TheVariants.{New}
+use Rattle.smf_model.specs.declared.refusal.SmfRefusal.{SmfRefusal}
+use Rattle.smf_model.specs.declared.refusal.SmfRefusal.TheVariants.{NoSession, SessionExists, TooManyGroups, MomentBack}
+use Rattle.smf_model.specs.Machine.{session_of, start_answer, count_answer, change_answer, detach_answer, reply_answer}
 
 -- the session that an event is for; a tick is for all
 abbrev pub subject : SmfEvent → Option ℕ

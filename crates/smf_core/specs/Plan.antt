@@ -1,17 +1,17 @@
 -- A plan: what an event makes of the machine, as what it makes of the sessions that it touches and the session that it adds (this product's own).
 use Rattle.std.specs.Prelude.{◌≡◌, ◌⊎◌, ℕ, zero, suc, ◌+◌, ◌<◌, ◌≤◌, Option, Some, None, List, [], ◌∷◌, ◌++◌, length, filter, Ok, Err}
-use Rattle.smf_core.specs.declared.session.Layer.{Layer}
-use Rattle.smf_core.specs.declared.session.Session.{Session}
-use Rattle.smf_core.specs.declared.session.Machine.{Machine}
-use Rattle.smf_core.specs.declared.event.SmfEvent.{SmfEvent}
+use Rattle.smf_model.specs.declared.session.Layer.{Layer}
+use Rattle.smf_model.specs.declared.session.Session.{Session}
+use Rattle.smf_model.specs.declared.session.Machine.{Machine}
+use Rattle.smf_model.specs.declared.event.SmfEvent.{SmfEvent}
 use Rattle.smf_core.specs.declared.plan.RuleChange.{RuleChange}
 use Rattle.smf_core.specs.declared.plan.Change.{Change}
 use Rattle.smf_core.specs.declared.plan.Next.{Next}
 use Rattle.smf_core.specs.declared.plan.Next.TheVariants.{Nothing, One, All}
 use Rattle.smf_core.specs.declared.plan.SmfPlan.{SmfPlan}
-use Rattle.smf_core.specs.declared.refusal.SmfRefusal.{SmfRefusal}
-use Rattle.smf_core.specs.declared.refusal.SmfRefusal.TheVariants.{OutOfMemory}
-use Rattle.smf_core.specs.Machine.{answer_of, step}
+use Rattle.smf_model.specs.declared.refusal.SmfRefusal.{SmfRefusal}
+use Rattle.smf_model.specs.declared.refusal.SmfRefusal.TheVariants.{OutOfMemory}
+use Rattle.smf_model.specs.Machine.{answer_of, step}
 use Rattle.smf_core.specs.Index.{place_in}
 use Rattle.smf_core.specs.Reads.{is_held, containers_of}
 use Rattle.smf_core.specs.Caches.{merged, places_from, SaysSame, session_with, KeptAs, numbers_of}
@@ -100,11 +100,17 @@ abbrev pub AddedIsReady : Option KeptAs → List Session → ℕ → Type 0
 AddedIsReady None sessions room = Unit {0}
 AddedIsReady (Some k) sessions room = (place_in (numbers_of sessions) k.session.number ≡ None) × (0 < room)
 
--- a plan fits to a machine: each of its changes fits to the session at its place, no session has the number of the one that it adds, and
--- there is room for what they open and add. A plan of an earlier machine may fit too
+-- a plan is of this machine as it stands: it is that of some event at it, each of its changes fits to the session at its place, no
+-- session has the number of the one that it adds, and there is room for what they open and add
 pub record IsReady (plan : SmfPlan) (s : Shown) : Type 0 where
+  pub event : SmfEvent
+  pub made : IsPlanOf plan s.machine event
   pub next : NextIsReady plan.next s.kept
   pub added : AddedIsReady plan.added s.machine.sessions s.room
+
+-- where a plan is that of an event, the machine took that event's step
+abbrev pub Takes : SmfPlan → Machine → Machine → Type 0
+Takes plan before now = (event : SmfEvent) → IsPlanOf plan before event → now ≡ step before event
 
 -- the refusal of an event, or want of memory
 abbrev pub IsRefused : SmfRefusal → Machine → SmfEvent → Type 0

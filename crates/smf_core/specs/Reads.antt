@@ -4,11 +4,11 @@ use Rattle.units.specs.declared.report.Container.{Container}
 use Rattle.units.specs.declared.request.Request.{Request}
 use Rattle.quotas.specs.declared.state.Gate.{Gate}
 use Rattle.quotas.specs.declared.state.Gate.TheVariants.{Waiting as GateWaiting}
-use Rattle.smf_core.specs.declared.session.Place.{Place}
-use Rattle.smf_core.specs.declared.session.Place.TheVariants.{Open, Waiting, Frozen}
-use Rattle.smf_core.specs.declared.session.Holding.{Holding}
-use Rattle.smf_core.specs.declared.session.Session.{Session}
-use Rattle.smf_core.specs.Machine.{gate_for, expected_of}
+use Rattle.smf_model.specs.declared.session.Place.{Place}
+use Rattle.smf_model.specs.declared.session.Place.TheVariants.{Open, Waiting, Frozen}
+use Rattle.smf_model.specs.declared.session.Holding.{Holding}
+use Rattle.smf_model.specs.declared.session.Session.{Session}
+use Rattle.smf_model.specs.Machine.{gate_for, expected_of}
 
 -- the unanswered request
 abbrev pub request_in : Option Session → Option Request

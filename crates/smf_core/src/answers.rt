@@ -4,14 +4,13 @@ ghost use Rattle.std.specs.List.{find};
 ghost use Rattle.std.specs.Option.{option_copied};
 ghost use Rattle.smf_core.specs.Caches.{AddsLayers, layers_by, layers_for, layers_added};
 ghost use Rattle.smf_core.specs.Draft.{whole};
-ghost use Rattle.smf_core.specs.Replies.{is_named, is_bad_request, is_final_refusal, is_final_for, is_answer_to, answer_holding, info_of, horizon_after, answer_entry, group_layers, layers_of, succeeded, released, replied, answered_by};
+ghost use Rattle.smf_model.specs.Replies.{is_named, is_bad_request, is_final_refusal, is_final_for, is_answer_to, answer_holding, info_of, horizon_after, answer_entry, group_layers, layers_of, succeeded, released, replied, answered_by};
 
 use crate::draft::{Draft, Pending, request_of, rules_of};
-use crate::event::SmfEvent;
+use crate::ending::{end, end_for};
 use crate::freeze::is_frozen_place;
-use crate::session::{Entry, Holding, Layer, Place, Session, Why};
-use crate::traffic::{end, end_for};
 use meter::Horizon;
+use smf_model::{Entry, Holding, Layer, Place, Session, SmfEvent, Why};
 use std::alloc::Global;
 use units::{
     Answer, Cause, List, Moment, Operation, OutOfMemory, Problem, Reply, Request, TriggerRule,

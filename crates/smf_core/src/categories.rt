@@ -1,6 +1,6 @@
 //! Which trigger types are immediate where no rule says otherwise, and which rules are of one type.
 ghost use Rattle.std.specs.Prelude.{◌≡◌, IfOk};
-ghost use Rattle.smf_core.specs.Categories.{same_type, is_immediate_by_default};
+ghost use Rattle.smf_model.specs.Categories.{same_type, is_immediate_by_default};
 
 use units::{TriggerType, name_of_type};
 

@@ -1,17 +1,15 @@
 //! What an event changes of a session of which only what is held is kept.
 ghost use Rattle.std.specs.Prelude.{◌≡◌, ◌-◌, ◌++◌, IfOk, length, map, filter};
 ghost use Rattle.smf_core.specs.Draft.{effect_past};
-ghost use Rattle.smf_core.specs.Machine.{finished};
+ghost use Rattle.smf_model.specs.Machine.{finished};
 ghost use Rattle.smf_core.specs.Reads.{is_held, is_held_at, containers_of};
 ghost use Rattle.smf_core.specs.Caches.{live_after, layers_added, place_at, says, SaysSame, IsMade, HasParts, ChangesRules};
 
 use crate::answers::added_layers;
 use crate::draft::Draft;
-use crate::event::SmfEvent;
 use crate::plan::{Change, RuleChange};
-use crate::session::{Holding, Layer, Place, Session};
-use crate::setup::SmfSetup;
 use crate::step::draft_after;
+use smf_model::{Holding, Layer, Place, Session, SmfEvent, SmfSetup};
 use std::alloc::Global;
 use units::{Container, List, Moment, OutOfMemory, copy};
 

@@ -2,16 +2,14 @@
 ghost use Rattle.std.specs.Prelude.{◌≡◌, ◌==◌, length};
 ghost use Rattle.std.specs.List.{find};
 ghost use Rattle.std.specs.Option.{option_copied};
-ghost use Rattle.smf_core.specs.Settle.{entry_of};
-ghost use Rattle.smf_core.specs.Machine.{is_live, expected_in, expected_of, gate_in, gate_for, is_served, is_full_for, start_answer, count_answer, change_answer, detach_answer, reply_answer};
+ghost use Rattle.smf_model.specs.Settle.{entry_of};
+ghost use Rattle.smf_model.specs.Machine.{is_live, expected_in, expected_of, gate_in, gate_for, is_served, is_full_for, start_answer, count_answer, change_answer, detach_answer, reply_answer};
 ghost use Rattle.smf_core.specs.Lookup.{subject, answer_at, answer_without, answer_for};
 
 use crate::answers::is_answer_to;
-use crate::event::SmfEvent;
-use crate::refusal::{Seen, SmfRefusal};
-use crate::session::{Entry, Life, Session};
 use crate::settle::entry_in;
 use quotas::{Gate, State};
+use smf_model::{Entry, Life, Seen, Session, SmfEvent, SmfRefusal};
 use units::{Moment, Reply, Report};
 
 fn is_live_session(session: &Session) -> bool

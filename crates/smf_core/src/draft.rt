@@ -3,7 +3,7 @@ ghost use Rattle.std.specs.Prelude.{◌≡◌, IfOk};
 ghost use Rattle.std.specs.Option.{option_copied};
 ghost use Rattle.smf_core.specs.Draft.{whole, course_in, request_after};
 
-use crate::session::{Entry, Holding, Layer, Life, Session};
+use smf_model::{Entry, Holding, Layer, Life, Session};
 use std::alloc::Global;
 use units::{Handling, List, Moment, OutOfMemory, Request};
 

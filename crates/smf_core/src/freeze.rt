@@ -3,13 +3,12 @@ ghost use Rattle.std.specs.Prelude.{◌≡◌, ◌==◌, ◌&&◌, IfOk, OnOk, m
 ghost use Rattle.std.specs.List.{list_any};
 ghost use Rattle.sessions.specs.Kept.{is_release};
 ghost use Rattle.smf_core.specs.Draft.{whole};
-ghost use Rattle.smf_core.specs.Settle.{is_waiting, is_frozen};
-ghost use Rattle.smf_core.specs.Freeze.{waiting_count, move_oldest, dropped, is_wanting, live_operation, ending_operation, operation_in, next_operation, names_of, used_as, is_frozen_of, used_of, ask_of, usage_of, says_something, usages, is_aborting, triggers_of, request_of as request_made, freeze_entry, with_request, freeze_by, freeze_due};
+ghost use Rattle.smf_model.specs.Settle.{is_waiting, is_frozen};
+ghost use Rattle.smf_model.specs.Freeze.{waiting_count, move_oldest, dropped, is_wanting, live_operation, ending_operation, operation_in, next_operation, names_of, used_as, is_frozen_of, used_of, ask_of, usage_of, says_something, usages, is_aborting, triggers_of, request_of as request_made, freeze_entry, with_request, freeze_by, freeze_due};
 
 use crate::draft::{Draft, Pending, request_of};
 use crate::rules::changes_for;
-use crate::session::{Entry, Holding, Life, Place, Session, Why};
-use crate::setup::SmfSetup;
+use smf_model::{Entry, Holding, Life, Place, Session, SmfSetup, Why};
 use std::alloc::Global;
 use units::{
     Ask, List, Moment, Operation, OutOfMemory, Request, Text, TriggerType, UnitUsage, Used, copy,

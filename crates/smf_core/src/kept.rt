@@ -1,7 +1,7 @@
 //! What is kept of a session for speed.
 ghost use Rattle.std.specs.Prelude.{◌≡◌, ◌<◌, ◌≤◌, ◌+◌, IfOk, OnOk, length, map, vec_len, vec_capacity};
 ghost use Rattle.std.specs.Option.{option_copied};
-ghost use Rattle.smf_core.specs.Machine.{touches, effect, finished, gate_for, expected_of};
+ghost use Rattle.smf_model.specs.Machine.{touches, effect, finished, gate_for, expected_of};
 ghost use Rattle.smf_core.specs.Lookup.{answer_at};
 ghost use Rattle.smf_core.specs.Reads.{is_held, containers_of, held_of};
 ghost use Rattle.smf_core.specs.Plan.{changed, Fits, rules_with};
@@ -10,13 +10,10 @@ ghost use Rattle.smf_core.specs.Caches.{all_layers, said_after, put_places, plac
 use crate::change::{change_of, containers_from, held_from, is_held_holding};
 use crate::checks::{check_found, expected, gate};
 use crate::draft::{Course, Pending, request_left};
-use crate::event::SmfEvent;
 use crate::plan::{Change, RuleChange};
-use crate::refusal::{Seen, SmfRefusal};
-use crate::session::{Entry, Holding, Layer, Session};
-use crate::setup::SmfSetup;
 use crate::step::is_touched;
 use quotas::Gate;
+use smf_model::{Entry, Holding, Layer, Seen, Session, SmfEvent, SmfRefusal, SmfSetup};
 use std::alloc::Global;
 use std::marker::Model;
 use std::mem;

@@ -1,16 +1,15 @@
 //! The sessions that an event changes.
 ghost use Rattle.std.specs.Prelude.{◌≡◌, ◌<◌, IfOk, map, length, slice_set};
-ghost use Rattle.smf_core.specs.Machine.{next_session};
+ghost use Rattle.smf_model.specs.Machine.{next_session};
 ghost use Rattle.smf_core.specs.Lookup.{subject};
 ghost use Rattle.smf_core.specs.Index.{AreApart, place_for};
 ghost use Rattle.smf_core.specs.Plan.{changed, sessions_next, changed_all, NextIsReady, AreReady, IsReadyAt, map_at};
 ghost use Rattle.smf_core.specs.Caches.{KeptAs, numbers_of, sessions_of, stepped_by};
 
 use crate::checks::subject;
-use crate::event::SmfEvent;
 use crate::kept::Kept;
 use crate::plan::{Change, Next};
-use crate::setup::SmfSetup;
+use smf_model::{SmfEvent, SmfSetup};
 use std::alloc::Global;
 use units::{List, Moment, OutOfMemory};
 

@@ -1,8 +1,7 @@
 //! A plan: what an event makes of the machine, with all the memory that it takes.
 use crate::draft::{Course, Pending};
 use crate::kept::Kept;
-use crate::refusal::Seen;
-use crate::session::{Entry, Holding, Layer};
+use smf_model::{Entry, Holding, Layer, Seen};
 use units::{Container, List, Moment};
 
 /// The trigger rules that an answer adds to a session, and all that its rules say then.

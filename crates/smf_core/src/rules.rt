@@ -2,13 +2,12 @@
 ghost use Rattle.std.specs.Prelude.{◌≡◌, nat_eq};
 ghost use Rattle.std.specs.List.{find};
 ghost use Rattle.smf_core.specs.Draft.{whole};
-ghost use Rattle.smf_core.specs.Rules.{rule_in, rule_for, or_earlier, category_in, volume_in, seconds_in, changes_in, is_immediate, is_immediate_for, limits_of, within, changes_of};
+ghost use Rattle.smf_model.specs.Rules.{rule_in, rule_for, or_earlier, category_in, volume_in, seconds_in, changes_in, is_immediate, is_immediate_for, limits_of, within, changes_of};
 
 use crate::draft::{Draft, rules_of};
 use crate::categories::{immediate_by_default, is_same};
-use crate::session::{Layer, Session};
-use crate::setup::SmfSetup;
 use quotas::Limits;
+use smf_model::{Layer, Session, SmfSetup};
 use units::{TriggerRule, TriggerType};
 
 // The first rule of a type in a list.

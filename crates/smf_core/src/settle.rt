@@ -2,13 +2,12 @@
 ghost use Rattle.std.specs.Prelude.{◌≡◌, IfOk, OnOk, map};
 ghost use Rattle.std.specs.List.{list_any};
 ghost use Rattle.smf_core.specs.Draft.{whole};
-ghost use Rattle.smf_core.specs.Settle.{is_open, is_open_of, open_of, entry_of, due_with, due_in, fire, close, due_at, close_due, is_at_once, settled};
+ghost use Rattle.smf_model.specs.Settle.{is_open, is_open_of, open_of, entry_of, due_with, due_in, fire, close, due_at, close_due, is_at_once, settled};
 
 use crate::draft::Draft;
 use crate::rules::{immediate_for, limits};
-use crate::session::{Entry, Holding, Place, Session};
-use crate::setup::SmfSetup;
 use meter::is_split;
+use smf_model::{Entry, Holding, Place, Session, SmfSetup};
 use std::alloc::Global;
 use units::{Container, List, Moment, OutOfMemory, TriggerType};
 

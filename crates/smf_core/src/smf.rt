@@ -1,23 +1,21 @@
 //! The machine: an event is planned, and then committed.
 ghost use Rattle.std.specs.Prelude.{◌≡◌, ◌<◌, ◌-◌, ◌++◌, [], IfOk, IfErr, OnOk, min, map, option_map, slice_get, vec_len, vec_capacity};
 ghost use Rattle.std.specs.Option.{option_copied};
-ghost use Rattle.smf_core.specs.declared.refusal.Seen.TheVariants.{New, Known as AlreadyKnown};
-ghost use Rattle.smf_core.specs.Machine.{answer_of, added_by, empty, session_of, stepped};
+ghost use Rattle.smf_model.specs.declared.refusal.Seen.TheVariants.{New, Known as AlreadyKnown};
+ghost use Rattle.smf_model.specs.Machine.{answer_of, added_by, empty, session_of, stepped};
 ghost use Rattle.smf_core.specs.Lookup.{session_for};
 ghost use Rattle.smf_core.specs.Reads.{request_in, gate_at, expected_at, containers_in, held_in};
-ghost use Rattle.smf_core.specs.Plan.{added_in, applied, AddedIsReady, IsPlanOf, IsReady, IsRefused};
+ghost use Rattle.smf_core.specs.Plan.{added_in, applied, AddedIsReady, IsPlanOf, IsReady, IsRefused, NextIsReady, Takes};
 ghost use Rattle.smf_core.specs.Caches.{numbers_of, sessions_of};
 
 use crate::checks::{check_missing, subject};
-use crate::event::SmfEvent;
 use crate::index::Index;
 use crate::kept::Kept;
 use crate::next::{next_for, take_next};
 use crate::plan::{Next, SmfPlan};
-use crate::refusal::{Seen, SmfRefusal};
-use crate::setup::{SmfSetup, copy_setup};
 use crate::step::{added_session, moment_after};
 use quotas::Gate;
+use smf_model::{Seen, SmfEvent, SmfRefusal, SmfSetup, copy_setup};
 use std::alloc::Global;
 use std::marker::Model;
 use units::{Container, Moment, OutOfMemory, Request};
@@ -128,7 +126,8 @@ impl Smf {
         requires room { 0 < self.old.room }
         ensures made { IfOk result (λ p. applied p self.old.machine ≡ stepped self.old.machine event.now) }
         ensures seen { IfOk result (λ p. p.seen ≡ New) }
-        ensures ready { IfOk result (λ p. IsReady p self.new) }
+        ensures next { IfOk result (λ p. NextIsReady p.next self.new.kept) }
+        ensures added { IfOk result (λ p. AddedIsReady p.added self.new.machine.sessions self.new.room) }
         ensures same { self.new.machine ≡ self.old.machine }
     {
         let now = moment_after(self.moment, event);
@@ -147,7 +146,8 @@ impl Smf {
     fn plan_known(&self) -> SmfPlan
         ensures made { applied result self.now.machine ≡ self.now.machine }
         ensures seen { result.seen ≡ AlreadyKnown }
-        ensures ready { IsReady result self.now }
+        ensures next { NextIsReady result.next self.now.kept }
+        ensures added { AddedIsReady result.added self.now.machine.sessions self.now.room }
     {
         SmfPlan {
             seen: Seen::Known,
@@ -183,11 +183,12 @@ impl Smf {
         plan.seen
     }
 
-    /// Takes the step that was planned; it takes no memory and can't fail. The plan has to fit to the machine as it stands: the last one
-    /// that `plan` made on it fits, with nothing committed since.
+    /// Takes the step of the event that was planned; it takes no memory and can't fail. The plan has to be of the machine as it stands:
+    /// the last one that `plan` made is, with nothing committed since.
     pub fn commit(&mut self, plan: SmfPlan) -> Seen
         requires { IsReady plan self.old }
-        ensures step { self.new.machine ≡ applied plan self.old.machine }
+        ensures step { Takes plan self.old.machine self.new.machine }
+        ensures made { self.new.machine ≡ applied plan self.old.machine }
         ensures seen { result ≡ plan.seen }
     {
         let SmfPlan {

@@ -1,17 +1,18 @@
 //! What an event makes of the sessions that it touches, and the session that it adds.
 ghost use Rattle.std.specs.Prelude.{◌≡◌, ◌==◌, ◌++◌, IfOk, OnOk, map, List};
 ghost use Rattle.smf_core.specs.Draft.{whole, effect_past, listed};
-ghost use Rattle.smf_core.specs.Freeze.{with_request};
-ghost use Rattle.smf_core.specs.Machine.{now_after, touches, finished, entries_of, fresh, added_by};
+ghost use Rattle.smf_model.specs.Freeze.{with_request};
+ghost use Rattle.smf_model.specs.Machine.{now_after, touches, finished, entries_of, fresh, added_by};
 
 use crate::answers::answer;
+use crate::asking::{ask_group, start};
+use crate::changes::change;
+use crate::counting::count;
 use crate::draft::{Draft, draft_of, into_session};
-use crate::event::SmfEvent;
+use crate::ending::detach;
 use crate::freeze::{drop_oldest, freeze, freeze_request};
-use crate::session::{Entry, Life, Session};
 use crate::settle::settle;
-use crate::setup::SmfSetup;
-use crate::traffic::{ask_group, change, count, detach, start};
+use smf_model::{Entry, Life, Session, SmfEvent, SmfSetup};
 use std::alloc::Global;
 use units::{List, Moment, Operation, OutOfMemory, Text, copy};
 

@@ -1,5 +1,5 @@
 use Rattle.std.proofs.Common.{◌≡◌, drop}
-use Rattle.smf_core.specs.Replies.{info_of}
+use Rattle.smf_model.specs.Replies.{info_of}
 use Rattle.smf_core.proofs.answers.info_in.Given as goal
 
 abbrev pub invariant-loop-info : goal.invariant-loop-info

@@ -1,5 +1,5 @@
 use Rattle.std.proofs.Common.{◌≡◌, ◌++◌, drop}
-use Rattle.smf_core.specs.Replies.{group_layers, layers_of}
+use Rattle.smf_model.specs.Replies.{group_layers, layers_of}
 use Rattle.smf_core.proofs.answers.with_rules.Given as goal
 
 abbrev pub invariant-loop-entry : goal.invariant-loop-entry

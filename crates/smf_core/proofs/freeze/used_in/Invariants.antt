@@ -1,5 +1,5 @@
 use Rattle.std.proofs.Common.{◌≡◌, ◌++◌, drop}
-use Rattle.smf_core.specs.Freeze.{used_of}
+use Rattle.smf_model.specs.Freeze.{used_of}
 use Rattle.smf_core.proofs.freeze.used_in.Given as goal
 
 abbrev pub invariant-loop-holding : goal.invariant-loop-holding

@@ -1,6 +1,6 @@
 use Rattle.std.proofs.Common.{◌≡◌, ◌∙◌, sym, map}
 use Rattle.smf_core.specs.declared.plan.Next.{Next}
-use Rattle.smf_core.specs.Machine.{next_session}
+use Rattle.smf_model.specs.Machine.{next_session}
 use Rattle.smf_core.specs.Plan.{sessions_next, map_at}
 use Rattle.smf_core.specs.Caches.{sessions_of}
 use Rattle.smf_core.proofs.KeptRight.{if_ok}

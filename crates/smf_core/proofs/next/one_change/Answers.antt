@@ -1,5 +1,5 @@
 use Rattle.std.proofs.Common.{◌≡◌, ◌∙◌, sym, ap, subst}
-use Rattle.smf_core.specs.Machine.{next_session, touches}
+use Rattle.smf_model.specs.Machine.{next_session, touches}
 use Rattle.smf_core.specs.Caches.{KeptAs, stepped_by}
 use Rattle.smf_core.specs.Plan.{changed, Fits}
 use Rattle.smf_core.proofs.Nexts.{map_at-none, map_at-alike, sessions-kept, ready-set, touched_now, untouched_now}

@@ -1,6 +1,6 @@
 use Rattle.std.proofs.Common.{◌≡◌, drop, fold}
 use Rattle.std.specs.Prelude.{None, option_map}
-use Rattle.smf_core.specs.Rules.{rule_for, or_earlier}
+use Rattle.smf_model.specs.Rules.{rule_for, or_earlier}
 use Rattle.smf_core.proofs.rules.category.Given as goal
 
 abbrev pub invariant-loop-layer : goal.invariant-loop-layer

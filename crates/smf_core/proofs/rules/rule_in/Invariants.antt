@@ -1,5 +1,5 @@
 use Rattle.std.proofs.Common.{◌≡◌, drop}
-use Rattle.smf_core.specs.Rules.{rule_in}
+use Rattle.smf_model.specs.Rules.{rule_in}
 use Rattle.smf_core.proofs.rules.rule_in.Given as goal
 
 abbrev pub invariant-loop-rule : goal.invariant-loop-rule

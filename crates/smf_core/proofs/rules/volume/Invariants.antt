@@ -1,7 +1,7 @@
 use Rattle.std.proofs.Common.{◌≡◌, drop, fold}
 use Rattle.std.specs.Prelude.{None, option_and_then}
 use Rattle.units.specs.declared.trigger.TriggerType.TheVariants.{VolumeLimit}
-use Rattle.smf_core.specs.Rules.{rule_for, or_earlier}
+use Rattle.smf_model.specs.Rules.{rule_for, or_earlier}
 use Rattle.smf_core.proofs.rules.volume.Given as goal
 
 abbrev pub invariant-loop-layer : goal.invariant-loop-layer

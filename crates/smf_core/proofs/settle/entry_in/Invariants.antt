@@ -1,5 +1,5 @@
 use Rattle.std.proofs.Common.{◌≡◌, drop}
-use Rattle.smf_core.specs.Settle.{entry_of}
+use Rattle.smf_model.specs.Settle.{entry_of}
 use Rattle.smf_core.proofs.settle.entry_in.Given as goal
 
 abbrev pub invariant-loop-entry : goal.invariant-loop-entry

@@ -1,6 +1,6 @@
 use Rattle.std.proofs.Common.{◌≡◌, drop, fold}
-use Rattle.smf_core.specs.Traffic.{with_asked}
-use Rattle.smf_core.specs.Machine.{entries_of}
+use Rattle.smf_model.specs.Traffic.{with_asked}
+use Rattle.smf_model.specs.Machine.{entries_of}
 use Rattle.smf_core.proofs.step.asked_entries.Given as goal
 
 abbrev pub invariant-loop-group : goal.invariant-loop-group

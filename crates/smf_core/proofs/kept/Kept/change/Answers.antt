@@ -1,6 +1,6 @@
 use Rattle.std.proofs.Common.{◌≡◌, ap, subst, length, arith}
 use Rattle.smf_core.specs.Caches.{KeptAs, all_layers, full}
-use Rattle.smf_core.specs.Machine.{finished, effect}
+use Rattle.smf_model.specs.Machine.{finished, effect}
 use Rattle.smf_core.specs.Plan.{changed, Fits}
 use Rattle.smf_core.proofs.KeptRight.{if_ok, with_places, made, fits}
 use Rattle.smf_core.proofs.kept.Kept.change.Goals as goal

@@ -1,5 +1,0 @@
-use Rattle.smf_core.proofs.ReportRuns.{reports_run}
-use Rattle.smf_core.proofs.laws.containers_are_cuts.Goals as goal
-
-pub returns : goal.returns
-returns c = reports_run c.reports_keep_cuts.ensures

@@ -1,5 +1,0 @@
-use Rattle.smf_core.proofs.Limits.{waits_run}
-use Rattle.smf_core.proofs.laws.few_wait.Goals as goal
-
-pub returns : goal.returns
-returns c = waits_run

@@ -1,5 +1,0 @@
-use Rattle.smf_core.proofs.ExcessRuns.{ends}
-use Rattle.smf_core.proofs.laws.oldest_are_given_up.Goals as goal
-
-pub returns : goal.returns
-returns c = ends

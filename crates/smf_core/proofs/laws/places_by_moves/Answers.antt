@@ -1,9 +1,0 @@
-use Rattle.smf_core.proofs.Traces.{moved_run}
-use Rattle.smf_core.proofs.Exact.{exact_run}
-use Rattle.smf_core.proofs.laws.places_by_moves.Goals as goal
-
-pub returns-clause-places : goal.returns-clause-places
-returns-clause-places c = moved_run
-
-pub returns-clause-exact : goal.returns-clause-exact
-returns-clause-exact c = exact_run

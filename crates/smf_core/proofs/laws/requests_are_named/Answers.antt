@@ -1,5 +1,0 @@
-use Rattle.smf_core.proofs.Named.{named_run}
-use Rattle.smf_core.proofs.laws.requests_are_named.Goals as goal
-
-pub returns : goal.returns
-returns c = named_run

@@ -1,0 +1,203 @@
+//! Usage reports: what they close, what they join, and how they are counted.
+ghost use Rattle.std.specs.Prelude.{◌≡◌, ◌==◌, ◌+◌, ◌<◌, ◌^◌, ◌↔◌, IfOk, IsOk, OnOk, IsTrue, map};
+ghost use Rattle.std.specs.List.{list_any};
+ghost use Rattle.smf_core.specs.Draft.{whole, joined_past, counted_past};
+ghost use Rattle.smf_model.specs.Settle.{is_open_of};
+ghost use Rattle.smf_model.specs.Traffic.{horizon_in, closes_before, close_of, extend_of, SumsFit, first_of as first_held, count_entry};
+
+use crate::draft::Draft;
+use crate::settle::{at_once, close_holding, entry_in, is_open_in, open_container};
+use meter::{Horizon, first_of, is_large, joins, trigger_before, with_report};
+use smf_model::{Entry, Holding, Place, Session};
+use std::alloc::Global;
+use units::{Container, List, Moment, OutOfMemory, Report, TriggerType};
+
+fn horizon_of(entry: Option<Entry>) -> Option<Horizon>
+    ensures { result ≡ horizon_in entry }
+{
+    match entry {
+        None => None,
+        Some(entry) => entry.horizon,
+    }
+}
+
+// What closes the group's open container before a report.
+fn closing_trigger(
+    horizon: &Option<Horizon>,
+    report: &Report,
+    container: Option<Container>,
+) -> Option<TriggerType>
+    ensures { result ≡ closes_before horizon.now report.now container }
+{
+    match container {
+        None => None,
+        Some(container) => {
+            if joins(horizon, &container, report) {
+                None
+            } else {
+                Some(trigger_before(horizon, &container, report))
+            }
+        }
+    }
+}
+
+fn close_in(group: u32, moment: Moment, trigger: Option<TriggerType>, holding: &Holding) -> Holding
+    ensures { result ≡ close_of group moment trigger holding.now }
+{
+    if is_open_in(group, holding) {
+        close_holding(moment, trigger, holding)
+    } else {
+        *holding
+    }
+}
+
+fn closed_in(
+    alloc: Global,
+    group: u32,
+    moment: Moment,
+    trigger: Option<TriggerType>,
+    holdings: &[Holding],
+) -> Result<Vec<Holding>, OutOfMemory>
+    ensures { IfOk result (λ v. v.items ≡ map (close_of group moment trigger) holdings.now) }
+{
+    let next = holdings
+        .iter()
+        .map(|h| close_in(group, moment, trigger, h))
+        .collect(alloc)?;
+    Ok(next)
+}
+
+// Whether the sums of a container and a report fit their types; in no session do they not.
+fn fits(container: &Container, report: &Report) -> bool
+    ensures { IsTrue result ↔ SumsFit container.now report.now }
+{
+    report.up <= u64::MAX - container.up
+        && report.down <= u64::MAX - container.down
+        && report.seconds <= u32::MAX - container.seconds
+        && container.reports < u32::MAX
+}
+
+fn extend_in(report: &Report, holding: &Holding) -> Result<Holding, OutOfMemory>
+    ensures value { IfOk result (λ h. h ≡ extend_of report.now holding.now) }
+    ensures given { SumsFit holding.now.container report.now → IsOk result }
+{
+    if !is_open_in(report.group, holding) {
+        return Ok(*holding);
+    }
+    if !fits(&holding.container, report) {
+        return Err(OutOfMemory);
+    }
+    Ok(Holding {
+        container: with_report(&holding.container, report),
+        ..*holding
+    })
+}
+
+fn all_extended(
+    alloc: Global,
+    report: &Report,
+    holdings: &[Holding],
+) -> Result<Vec<Holding>, OutOfMemory>
+    ensures { IfOk result (λ v. v.items ≡ map (extend_of report.now) holdings.now) }
+{
+    let mut next = Vec::new(alloc);
+    for holding in holdings {
+        next.push(extend_in(report, holding)?)?;
+    }
+    Ok(next)
+}
+
+fn first_holding(lsn: u32, report: &Report) -> Holding
+    ensures { result ≡ first_held lsn report.now }
+{
+    Holding {
+        container: first_of(lsn, report),
+        trigger: None,
+        moment: report.moment,
+        place: Place::Open,
+    }
+}
+
+fn any_open(group: u32, holdings: &[Holding]) -> bool
+    ensures { result ≡ list_any (is_open_of group) holdings.now }
+{
+    holdings.iter().any(|h| is_open_in(group, h))
+}
+
+fn with_joined(
+    alloc: Global,
+    past: usize,
+    report: &Report,
+    holdings: &[Holding],
+) -> Result<Vec<Holding>, OutOfMemory>
+    ensures { IfOk result (λ v. v.items ≡ joined_past past report.now holdings.now) }
+{
+    if any_open(report.group, holdings) {
+        return all_extended(alloc, report, holdings);
+    }
+    if past >= 1 << 31 || holdings.len() >= 1 << 31 {
+        return Err(OutOfMemory);
+    }
+    let mut next = Vec::from_slice(alloc, holdings)?;
+    next.push(first_holding((past + holdings.len()) as u32 + 1, report))?;
+    Ok(next)
+}
+
+fn counted_entry(report: &Report, entry: &Entry) -> Entry
+    requires number { report.now.number + 1 < 2 ^ 32 }
+    requires sum { report.now.up + report.now.down < 2 ^ 64 }
+    ensures { result ≡ count_entry report.now entry.now }
+{
+    let mut next = *entry;
+    if next.number == report.group {
+        next.expected = report.number + 1;
+        next.quota
+            .used(report.up + report.down, report.seconds, report.moment);
+    }
+    next
+}
+
+fn counted_entries(
+    alloc: Global,
+    report: &Report,
+    groups: &[Entry],
+) -> Result<Vec<Entry>, OutOfMemory>
+    requires number { report.now.number + 1 < 2 ^ 32 }
+    requires sum { report.now.up + report.now.down < 2 ^ 64 }
+    ensures { IfOk result (λ v. v.items ≡ map (count_entry report.now) groups.now) }
+{
+    let next = groups
+        .iter()
+        .map(|e| counted_entry(report, e))
+        .collect(alloc)?;
+    Ok(next)
+}
+
+/// Counts a report (TS 32.255, 5.2.1).
+pub fn count(
+    alloc: Global,
+    past: usize,
+    report: &Report,
+    before: &Session,
+    draft: &mut Draft,
+) -> Result<(), OutOfMemory>
+    ensures { OnOk result (whole before.now draft.new ≡ counted_past past report.now (whole before.now draft.old)) }
+{
+    // no report that is accepted comes so far
+    if report.number == u32::MAX || is_large(report) || draft.course.reports == u32::MAX {
+        return Err(OutOfMemory);
+    }
+    let holdings = draft.holdings.as_slice();
+    let horizon = horizon_of(entry_in(draft.groups.as_slice(), report.group));
+    let trigger = closing_trigger(&horizon, report, open_container(holdings, report.group));
+    let closed = closed_in(alloc, report.group, report.moment, trigger, holdings)?;
+    let taken = with_joined(alloc, past, report, &closed)?;
+    let groups = counted_entries(alloc, report, draft.groups.as_slice())?;
+    let came = at_once(before, draft, report.group, trigger);
+    draft.course.last = report.moment;
+    draft.course.reports += 1;
+    draft.holdings = List::from_vec(taken);
+    draft.groups = List::from_vec(groups);
+    draft.course.at_once = draft.course.at_once || came;
+    Ok(())
+}

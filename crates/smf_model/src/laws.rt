@@ -1,0 +1,132 @@
+//! What holds of all lists of events.
+ghost use Rattle.std.specs.Prelude.{◌≡◌, ◌++◌, ◌∷◌, ℕ, List};
+ghost use Rattle.smf_model.specs.declared.setup.SmfSetup.{SmfSetup};
+ghost use Rattle.smf_model.specs.declared.event.SmfEvent.{SmfEvent};
+ghost use Rattle.smf_model.specs.Machine.{machine_after, session_of, answer_of};
+ghost use Rattle.smf_model.specs.Forward.{IsLaterSession};
+ghost use Rattle.sessions.specs.Trace.{IsTrace};
+ghost use Rattle.smf_model.specs.Trace.{trace, moves_if, AgreesWith};
+ghost use Rattle.smf_model.specs.Places.{StandsAsMoved};
+ghost use Rattle.smf_model.specs.Exact.{ArePlacedExactly};
+ghost use Rattle.smf_model.specs.Contents.{AreContents};
+ghost use Rattle.smf_model.specs.RequestNames.{AreNamed};
+ghost use Rattle.smf_model.specs.Causes.{AreCaused};
+ghost use Rattle.smf_model.specs.Excess.{EndsEvent};
+ghost use Rattle.smf_model.specs.Apart.{RequestsAreApart, SessionsAreApart};
+ghost use Rattle.smf_model.specs.Ended.{HoldsNothing};
+ghost use Rattle.smf_model.specs.Prefixes.{AreStanding};
+ghost use Rattle.smf_model.specs.Limits.{WaitsAtMost};
+ghost use Rattle.smf_model.specs.Reports.{reports, StandsByReports};
+ghost use Rattle.smf_model.specs.Came.{steps};
+ghost use Rattle.smf_model.specs.Quotas.{StandsBySteps, NoneIsDue};
+
+use meter::reports_keep_cuts;
+use quotas::{by_whole_list, fires_once};
+
+/// A law of events; it does nothing. After any events each session is as its moves leave it: its requests are numbered 1, 2, 3, each
+/// after the first was frozen after a success of the one before, and the unanswered one is the newest (TS 32.290, 5.3.2).
+pub fn requests_in_order()
+    ensures { (setup : SmfSetup) (events : List SmfEvent) (number : ℕ) → AgreesWith (trace setup events number) (session_of number (machine_after setup events).sessions) }
+{}
+
+/// A law of events; it does nothing. As events go on a session stays, and each of its containers stays where it is or goes on: open,
+/// waiting, frozen, then answered or given up, so what is answered or given up stays so (this product's own).
+pub fn places_go_on()
+    ensures { (setup : SmfSetup) (more events : List SmfEvent) (number : ℕ) → IsLaterSession (session_of number (machine_after setup events).sessions) (session_of number (machine_after setup (more ++ events)).sessions) }
+{}
+
+/// A law of events; it does nothing. After any events each move of a session is one that may come after those before it: a container is
+/// closed once; a request is frozen only where nothing is unanswered, and holds containers that wait, each once, so that no container is
+/// in two requests; what is given up as too much waits; a reply comes only to an unanswered request (TS 32.290, 5.3.2).
+pub fn moves_may_follow()
+    ensures { (setup : SmfSetup) (events : List SmfEvent) (number : ℕ) → IsTrace (trace setup events number) }
+{}
+
+/// A law of events; it does nothing. After any events the containers of a session are numbered 1, 2, 3, and each is where the moves of
+/// the session say, with what closed it and when: open until it is closed; then given up, with the cause; else waiting, where no request
+/// has it; else frozen, where no request with a final success has it; else answered. So each place is held exactly where the moves say so: a
+/// container is frozen exactly where it stands in the unanswered request (this product's own).
+pub fn places_by_moves()
+    ensures places { (setup : SmfSetup) (events : List SmfEvent) (number : ℕ) → StandsAsMoved (trace setup events number) (session_of number (machine_after setup events).sessions) }
+    ensures exact { (setup : SmfSetup) (events : List SmfEvent) (number : ℕ) → ArePlacedExactly (trace setup events number) (session_of number (machine_after setup events).sessions) }
+{}
+
+/// A law of events; it does nothing. What events did to a session stands whatever events come after them; so each request, its number and
+/// what it holds depend only on the events up to its freezing (this product's own).
+pub fn requests_stand()
+    ensures { (setup : SmfSetup) (more events : List SmfEvent) (number : ℕ) → AreStanding setup more events number }
+{}
+
+/// A law of events; it does nothing. After any events at most the setup's greatest number of closed containers of a session wait (this
+/// product's own).
+pub fn few_wait()
+    ensures { (setup : SmfSetup) (events : List SmfEvent) (number : ℕ) → WaitsAtMost setup.held_max (session_of number (machine_after setup events).sessions) }
+{}
+
+/// A law of events; it does nothing. After any events the reports of a rating group that were counted are numbered 1, 2, 3 without a gap,
+/// and the next number is expected; the containers of the group, in order of their numbers, are a plain cut of these reports, and a cut
+/// under each set of whole hours as switches that none of the group's horizons has strictly within it (TS 32.255, 5.2.1).
+pub fn containers_are_cuts()
+    ensures { (setup : SmfSetup) (events : List SmfEvent) (number : ℕ)
+        → StandsByReports (trace setup events number) (reports setup events number) (session_of number (machine_after setup events).sessions) }
+{
+    reports_keep_cuts();
+}
+
+/// A law of events; it does nothing. After any events the quota of a rating group is that of the whole list of what came to it: asking,
+/// freezings, answers, reports and triggers. So what is due and the gate are those of the terms of the latest answer with an entry of it
+/// and of the sum over the reports since the freezing of that answer's request (TS 32.290, quota management).
+pub fn quotas_by_steps()
+    ensures { (setup : SmfSetup) (events : List SmfEvent) (number group : ℕ) → StandsBySteps group (steps setup events number group) (session_of number (machine_after setup events).sessions) }
+{
+    by_whole_list();
+}
+
+/// A law of events; it does nothing. Once a session is settled at a moment, no trigger of its rating groups is due at that moment, so
+/// settling it again changes nothing (this product's own).
+pub fn settles_once()
+    ensures { (setup : SmfSetup) (events : List SmfEvent) (number now : ℕ) → NoneIsDue setup now (session_of number (machine_after setup events).sessions) }
+{
+    fires_once();
+}
+
+/// A law of events; it does nothing. After any events each request of a session holds exactly the containers that waited as it was frozen
+/// and were among the 500 oldest, each in the entry of its rating group, with its amounts, trigger and moment as it was closed
+/// (TS 32.291, 6.1.6.2.1.4; the 500 are this product's own).
+pub fn requests_hold()
+    ensures { (setup : SmfSetup) (events : List SmfEvent) (number : ℕ) → AreContents (trace setup events number) }
+{}
+
+/// A law of events; it does nothing. After any events each request of a session is of this SMF and of that session; the first is a Create,
+/// and each later one is an Update or a Release of the reference that the first success gave (TS 32.291, 6.1.3).
+pub fn requests_are_named()
+    ensures { (setup : SmfSetup) (events : List SmfEvent) (number : ℕ) → AreNamed setup number (trace setup events number) }
+{}
+
+/// A law of events; it does nothing. An event makes a reply an answer of a session only where it brings that reply to the session, with the
+/// number of its unanswered request, which is the newest (TS 32.290, 5.3.2).
+pub fn replies_are_caused()
+    ensures { (setup : SmfSetup) (event : SmfEvent) (events : List SmfEvent) (number : ℕ)
+        → AreCaused event number (trace setup events number) (moves_if (machine_after setup events) number event (answer_of (machine_after setup events) event)) }
+{}
+
+/// A law of events; it does nothing. What an event does to a session ends with what it gives up as too much: by the moves up to its
+/// freezing, exactly each closed container that waits and from whose number on more than the setup's greatest number wait (this product's
+/// own).
+pub fn oldest_are_given_up()
+    ensures { (setup : SmfSetup) (event : SmfEvent) (events : List SmfEvent) (number : ℕ) → EndsEvent setup.held_max (trace setup events number) (trace setup (event ∷ events) number) }
+{}
+
+/// A law of events; it does nothing. After any events no container of a session is in two requests; what is given up is in no request with
+/// a final success, and in no request at all unless the session was refused or given up unsent; and only the newest request may be a Release.
+/// No two sessions have one number (TS 32.290, 5.3.2).
+pub fn requests_are_apart()
+    ensures requests { (setup : SmfSetup) (events : List SmfEvent) (number : ℕ) → RequestsAreApart (trace setup events number) }
+    ensures sessions { (setup : SmfSetup) (events : List SmfEvent) → SessionsAreApart (machine_after setup events).sessions }
+{}
+
+/// A law of events; it does nothing. After any events a session whose Release was answered, or that was refused or given up unsent, holds
+/// nothing: each of its containers was answered with a final success or is given up (this product's own).
+pub fn ended_sessions_hold_nothing()
+    ensures { (setup : SmfSetup) (events : List SmfEvent) (number : ℕ) → HoldsNothing (trace setup events number) (session_of number (machine_after setup events).sessions) }
+{}

@@ -1,0 +1,29 @@
+//! What events mean to an SMF's charging trigger function, and what holds of every list of them.
+//!
+//! What it promises: `machine_after setup events` (`specs/Machine`, newest event first) is the machine after these
+//! events, one `step` an event; `trace` (`specs/Trace`) is what they did to one session, as a list of the moves of
+//! `sessions`, which later events only make longer. The laws (`laws`) join the machine to whole lists: requests,
+//! places of containers, cuts, quotas. Nothing here runs; `smf_core` is the machine in code, and stands on these
+//! definitions, so that a change of its code proves no law again.
+//!
+//! Where a rule goes: a check into `answer_in` (`specs/Machine`); an effect into `effect` and a file beside
+//! `specs/Traffic`; a trigger's category or limit into `Rules`; what a request holds into `Freeze`; its moves into
+//! `effect_moves`. Each is one more case in the proofs `Agreement`, `Later` and `Effects`.
+#![tactic(auto)]
+
+mod event;
+mod laws;
+mod refusal;
+mod session;
+mod setup;
+
+pub use event::SmfEvent;
+pub use laws::{
+    containers_are_cuts, ended_sessions_hold_nothing, few_wait, moves_may_follow,
+    oldest_are_given_up, places_by_moves, places_go_on, quotas_by_steps, replies_are_caused,
+    requests_are_apart, requests_are_named, requests_hold, requests_in_order, requests_stand,
+    settles_once,
+};
+pub use refusal::{Seen, SmfRefusal};
+pub use session::{Entry, Holding, Layer, Life, Machine, Place, Session, Why};
+pub use setup::{SmfSetup, copy_setup};
