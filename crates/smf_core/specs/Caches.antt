@@ -57,10 +57,12 @@ layers_by (Updated answer) entries = layers_of answer entries
 layers_by Released entries = []
 layers_by (Refused problem) entries = []
 
+-- the trigger rules that a reply to the unanswered request adds
 abbrev pub layers_for : Reply → Option Request → List Entry → List Layer
 layers_for reply None entries = []
 layers_for reply (Some q) entries = layers_by reply entries
 
+-- the trigger rules that an event adds to a session
 abbrev pub layers_added : SmfEvent → Session → List Layer
 layers_added (Answered session number reply) s = layers_for reply s.request s.groups
 layers_added other s = []
@@ -190,6 +192,7 @@ said_after (Some a) said = a.said
 abbrev pub sessions_of : List KeptAs → List Session
 sessions_of kept = map (λ k. k.session) kept
 
+-- the sessions' numbers, in their order
 abbrev pub numbers_of : List Session → List ℕ
 numbers_of sessions = map (λ s. s.number) sessions
 

@@ -19,6 +19,7 @@ subject (Tick moment) = None
 subject (Detach session abnormal moment) = Some session
 subject (Answered session number reply) = Some session
 
+-- the session that an event names, where it names one
 abbrev pub session_for : Option ℕ → List Session → Option Session
 session_for number sessions = option_and_then (λ n. session_of n sessions) number
 
@@ -42,6 +43,7 @@ answer_without now (Change session trigger moment) = Err NoSession
 answer_without now (Detach session abnormal moment) = Err NoSession
 answer_without now (Answered session number reply) = Err NoSession
 
+-- the answer to an event, by the session that it names
 abbrev pub answer_for : ℕ → Option Session → SmfEvent → Result Seen SmfRefusal
 answer_for now (Some s) event = answer_at event s
 answer_for now None event = answer_without now event

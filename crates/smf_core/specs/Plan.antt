@@ -25,6 +25,7 @@ rules_with rules (Some a) = rules ++ a.added
 abbrev pub changed : Change → Session → Session
 changed c s = session_with c s (merged s.holdings c.moved) (rules_with s.rules c.rules)
 
+-- what is kept of all trigger rules says what they say
 abbrev pub RulesFit : Option RuleChange → List Layer → Type 0
 RulesFit None rules = Unit {0}
 RulesFit (Some a) rules = SaysSame (rules ++ a.added) a.said
@@ -81,21 +82,25 @@ pub record IsPlanOf (plan : SmfPlan) (m : Machine) (event : SmfEvent) : Type 0 w
 abbrev pub IsReadyFor : Change → KeptAs → Type 0
 IsReadyFor c k = Fits c k.session × (0 < k.room)
 
+-- so is the change of the session at a place
 abbrev pub IsReadyAt : ℕ → Change → List KeptAs → Type 0
 IsReadyAt at c [] = ⊥
 IsReadyAt zero c (k ∷ kept) = IsReadyFor c k
 IsReadyAt (suc at) c (k ∷ kept) = IsReadyAt at c kept
 
+-- so is each of several changes, one a session
 abbrev pub AreReady : List Change → List KeptAs → Type 0
 AreReady [] kept = Unit {0}
 AreReady (c ∷ changes) [] = ⊥
 AreReady (c ∷ changes) (k ∷ kept) = IsReadyFor c k × AreReady changes kept
 
+-- so are the changes of a plan
 abbrev pub NextIsReady : Next → List KeptAs → Type 0
 NextIsReady Nothing kept = Unit {0}
 NextIsReady (One at change) kept = IsReadyAt at change kept
 NextIsReady (All changes) kept = AreReady changes kept
 
+-- no session has the number of the one that is added, and there is a place for it
 abbrev pub AddedIsReady : Option KeptAs → List Session → ℕ → Type 0
 AddedIsReady None sessions room = Unit {0}
 AddedIsReady (Some k) sessions room = (place_in (numbers_of sessions) k.session.number ≡ None) × (0 < room)

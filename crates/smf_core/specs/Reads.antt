@@ -14,10 +14,12 @@ use Rattle.smf_model.specs.Machine.{gate_for, expected_of}
 abbrev pub request_in : Option Session → Option Request
 request_in s = option_and_then (λ x. x.request) s
 
+-- what becomes of a rating group's traffic, where there is such a session
 abbrev pub gate_at : ℕ → Option Session → Gate
 gate_at group None = GateWaiting
 gate_at group (Some s) = gate_for group s
 
+-- the number of a rating group's next report, where there is such a session
 abbrev pub expected_at : ℕ → Option Session → ℕ
 expected_at group None = 1
 expected_at group (Some s) = expected_of group s
@@ -29,6 +31,7 @@ is_held_at Waiting = true
 is_held_at Frozen = true
 is_held_at other = false
 
+-- a container is held: it is open, waits or is frozen
 abbrev pub is_held : Holding → Bool
 is_held h = is_held_at h.place
 
@@ -36,6 +39,7 @@ is_held h = is_held_at h.place
 abbrev pub containers_of : List Holding → List Container
 containers_of holdings = map (λ h. h.container) holdings
 
+-- all containers of a session, where there is one
 abbrev pub holdings_in : Option Session → List Holding
 holdings_in None = []
 holdings_in (Some s) = s.holdings
@@ -44,8 +48,10 @@ holdings_in (Some s) = s.holdings
 abbrev pub containers_in : Option Session → List Container
 containers_in s = containers_of (holdings_in s)
 
+-- the containers that are held
 abbrev pub held_of : List Holding → List Container
 held_of holdings = containers_of (filter is_held holdings)
 
+-- those of a session, where there is one
 abbrev pub held_in : Option Session → List Container
 held_in s = held_of (holdings_in s)

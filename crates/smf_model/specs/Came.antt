@@ -17,6 +17,7 @@ use Rattle.smf_model.specs.GroupSteps.{on_entry, frozen_step, finish_steps, used
 abbrev pub asked_step : ℕ → ℕ → List Step
 asked_step asking group = if group == asking then Asked ∷ [] else []
 
+-- what an event's own effect brings to it
 abbrev pub effect_steps : ℕ → SmfEvent → Session → List Step
 effect_steps group (Attach session subscriber groups moment) s = []
 effect_steps group (Start session asking moment) s = asked_step asking group
@@ -31,10 +32,12 @@ abbrev pub asked_steps : ℕ → List ℕ → List Step
 asked_steps group [] = []
 asked_steps group (asking ∷ groups) = asked_steps group groups ++ asked_step asking group
 
+-- what the Attach of its session brings to it
 abbrev pub attach_steps : SmfSetup → ℕ → ℕ → List ℕ → Session → List Step
 attach_steps setup now group groups s =
     finish_steps setup now group (with_request setup now Create s) ++ (on_entry (entry_of group s.groups) (frozen_step (Some Create)) ++ asked_steps group groups)
 
+-- what an event brings to it that adds its session
 abbrev pub added_steps : SmfSetup → ℕ → ℕ → ℕ → SmfEvent → List Step
 added_steps setup now number group (Attach session subscriber groups moment) = if session == number then attach_steps setup now group groups (fresh setup session subscriber groups moment) else []
 added_steps setup now number group other = []

@@ -22,6 +22,7 @@ pub record IsHeld (trace : List Move) (group : ℕ) (x : Used) : Type 0 where
   pub is_closed : closed_as trace x.lsn ≡ Some closed
   pub same : x ≡ used_closed closed
 
+-- a request holds containers as they were closed
 abbrev pub HoldsAsClosed : List Move → Request → Type 0
 HoldsAsClosed trace q = AllByRecursion (λ u. AllByRecursion (IsHeld trace u.group) u.used) q.usage
 

@@ -25,6 +25,7 @@ pub record IsPlacedExactly (trace : List Move) (h : Holding) : Type 0 where
   pub given_up_with : (cause : Cause) → (h.place ≡ GivenUp (why_of cause)) ↔ (given_up trace h.container.lsn ≡ Some cause)
   pub once : uses h.container.lsn (requests trace) ≤ 1
 
+-- each container of a session is where its moves say
 abbrev pub ArePlacedExactly : List Move → Option Session → Type 0
 ArePlacedExactly trace None = trace ≡ []
 ArePlacedExactly trace (Some s) = AllByRecursion (IsPlacedExactly trace) s.holdings

@@ -19,6 +19,7 @@ GivesUpBeyond most frozen after =
     (last lsn : ℕ) → NoneWaitsAfter frozen last → 0 < lsn
     → (given_up after lsn ≡ Some HeldFull) ↔ ((given_up frozen lsn ≡ Some HeldFull) ⊎ (IsWaiting frozen lsn × (most < waiting_between frozen lsn last)))
 
+-- moves give up nothing as too much
 abbrev pub DropsNone : List Move → Type 0
 DropsNone [] = Unit {0}
 DropsNone (Drops lsn ∷ moves) = ⊥

@@ -57,6 +57,7 @@ abbrev pub ending_operation : Session → Option ℕ → Option Operation
 ending_operation s None = None
 ending_operation s (Some reference) = if nat_lt 500 (waiting_count s.holdings) then Some (Update reference) else Some (Release reference)
 
+-- the operation that is due, by how far the session is
 abbrev pub operation_in : SmfSetup → Session → Life → Option Operation
 operation_in setup s Live = live_operation setup s s.reference
 operation_in setup s Ending = ending_operation s s.reference
@@ -80,6 +81,7 @@ used_as h = record { lsn = h.container.lsn; group = h.container.group; up = h.co
 abbrev pub is_frozen_of : ℕ → Holding → Bool
 is_frozen_of group h = is_frozen h.place && (h.container.group == group)
 
+-- the frozen containers of a rating group, as a request carries them
 abbrev pub used_of : ℕ → List Holding → List Used
 used_of group [] = []
 used_of group (h ∷ holdings) = if is_frozen_of group h then used_as h ∷ used_of group holdings else used_of group holdings
@@ -92,13 +94,16 @@ ask_of wish = if wish then Some (record { volume = None; seconds = None }) else 
 abbrev pub usage_of : Entry → List Used → UnitUsage
 usage_of e used = record { group = e.number; ask = ask_of e.quota.wish; used = used }
 
+-- a rating group has something to say in a request
 abbrev pub says_something : Entry → List Used → Bool
 says_something e used = is_wanting e || not (length used == 0)
 
+-- the entries of a request, in the order of the groups
 abbrev pub usages : List Holding → List Entry → List UnitUsage
 usages holdings [] = []
 usages holdings (e ∷ entries) = if says_something e (used_of e.number holdings) then usage_of e (used_of e.number holdings) ∷ usages holdings entries else usages holdings entries
 
+-- a session ends abnormally
 abbrev pub is_aborting : Life → Bool
 is_aborting Aborting = true
 is_aborting other = false
@@ -122,6 +127,7 @@ request_of setup now s operation = record {
   triggers = triggers_of operation s.life;
 }
 
+-- a wish that stands in a request is none any more
 abbrev pub freeze_entry : Entry → Entry
 freeze_entry e = record e { quota = frozen e.quota }
 
@@ -135,9 +141,11 @@ with_request setup now operation s = record s {
   request = Some (request_of setup now s operation);
 }
 
+-- the session with the request of this operation, where one is due
 abbrev pub freeze_by : SmfSetup → ℕ → Option Operation → Session → Session
 freeze_by setup now None s = s
 freeze_by setup now (Some operation) s = with_request setup now operation s
 
+-- a request is frozen where one is due
 abbrev pub freeze_due : SmfSetup → ℕ → Session → Session
 freeze_due setup now s = freeze_by setup now (next_operation setup s) s

@@ -26,10 +26,12 @@ abbrev pub fired_step : Option TriggerType → List Step
 fired_step None = []
 fired_step (Some trigger) = Fired trigger ∷ []
 
+-- a request that is frozen has it
 abbrev pub frozen_step : Option Operation → Entry → List Step
 frozen_step None e = []
 frozen_step (Some operation) e = Frozen ∷ []
 
+-- what the end of each event brings to it, a firing and then a freezing
 abbrev pub finish_steps : SmfSetup → ℕ → ℕ → Session → List Step
 finish_steps setup now group s =
     on_entry (entry_of group (settled setup now s).groups) (frozen_step (next_operation setup (settled setup now s)))
@@ -39,9 +41,11 @@ finish_steps setup now group s =
 abbrev pub used_step : Report → Entry → List Step
 used_step r e = if e.number == r.group then Used (r.up + r.down) r.seconds r.moment ∷ [] else []
 
+-- an answer to a request with this stamp
 abbrev pub answered_step : ℕ → List UnitInfo → Entry → List Step
 answered_step stamp units e = Answered stamp (info_of e.number units) ∷ []
 
+-- a reply to the unanswered request
 abbrev pub reply_step : Reply → Option Request → Entry → List Step
 reply_step p None e = []
 reply_step (Created reference answer) (Some q) e = answered_step q.stamp answer.units e

@@ -13,11 +13,13 @@ use Rattle.smf_model.specs.Machine.{session_of, answer_of, now_after, machine_af
 abbrev pub Brings : Type 0 → Type 0
 Brings X = SmfSetup → ℕ → ℕ → SmfEvent → Option Session → List X
 
+-- what an event brings to a session, where it is a step
 abbrev pub brought : {X : Type 0} → Brings X → Machine → ℕ → SmfEvent → Result Seen SmfRefusal → List X
 brought brings m number event (Ok New) = brings m.setup (now_after m.moment event) number event (session_of number m.sessions)
 brought brings m number event (Ok Known) = []
 brought brings m number event (Err e) = []
 
+-- all that events brought to a session, the newest first
 abbrev pub history : {X : Type 0} → Brings X → SmfSetup → List SmfEvent → ℕ → List X
 history brings setup [] number = []
 history brings setup (event ∷ earlier) number =

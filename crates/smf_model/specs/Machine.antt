@@ -30,10 +30,12 @@ use Rattle.smf_model.specs.Replies.{is_answer_to, answered_by}
 abbrev pub session_of : ℕ → List Session → Option Session
 session_of number sessions = find (λ s. s.number == number) sessions
 
+-- a session goes on
 abbrev pub is_live : Life → Bool
 is_live Live = true
 is_live other = false
 
+-- a session is over
 abbrev pub is_ended : Life → Bool
 is_ended Ended = true
 is_ended other = false
@@ -43,6 +45,7 @@ abbrev pub expected_in : Option Entry → ℕ
 expected_in None = 1
 expected_in (Some e) = e.expected
 
+-- the number of the next report of a session's rating group
 abbrev pub expected_of : ℕ → Session → ℕ
 expected_of group s = expected_in (entry_of group s.groups)
 
@@ -51,9 +54,11 @@ abbrev pub gate_in : Option Entry → Gate
 gate_in None = Waiting
 gate_in (Some e) = gate_of e.quota
 
+-- the gate of a session's rating group
 abbrev pub gate_for : ℕ → Session → Gate
 gate_for group s = if is_live s.life then gate_in (entry_of group s.groups) else Closed
 
+-- traffic passes
 abbrev pub is_passing : Gate → Bool
 is_passing Passing = true
 is_passing other = false
@@ -70,6 +75,7 @@ is_full_for (Some e) groups = false
 
 -- the checks of each event, in order; what comes first decides
 
+-- traffic of a rating group begins
 abbrev pub start_answer : ℕ → ℕ → Session → Result Seen SmfRefusal
 start_answer group moment s =
     if not (is_live s.life) then Err (GateClosed Closed) else
@@ -78,6 +84,7 @@ start_answer group moment s =
     (if is_full_for (entry_of group s.groups) (length s.groups) then Err TooManyGroups else
     Ok New)))
 
+-- a usage report
 abbrev pub count_answer : Report → Session → Result Seen SmfRefusal
 count_answer r s =
     if nat_le 1 r.number && nat_lt r.number (expected_of r.group s) then Ok Known else
@@ -88,29 +95,35 @@ count_answer r s =
     (if nat_le (2 ^ 20) s.reports then Err TooManyReports else
     Ok New)))))
 
+-- charging conditions change
 abbrev pub change_answer : ℕ → Session → Result Seen SmfRefusal
 change_answer moment s =
     if not (is_live s.life) then Err (GateClosed Closed) else
     (if nat_lt moment s.last then Err (MomentBack s.last) else
     Ok New)
 
+-- the PDU session ends
 abbrev pub detach_answer : ℕ → Session → Result Seen SmfRefusal
 detach_answer moment s =
     if not (is_live s.life) then Ok Known else
     (if nat_lt moment s.last then Err (MomentBack s.last) else
     Ok New)
 
+-- a reply
 abbrev pub reply_answer : ℕ → Reply → Session → Result Seen SmfRefusal
 reply_answer number reply s = if not (is_ended s.life) && is_answer_to number reply s.request then Ok New else Ok Known
 
+-- there is a session of this number
 abbrev pub on_session : Option Session → (Session → Result Seen SmfRefusal) → Result Seen SmfRefusal
 on_session None answer = Err NoSession
 on_session (Some s) answer = answer s
 
+-- a PDU session begins
 abbrev pub attach_answer : Option Session → ℕ → Result Seen SmfRefusal
 attach_answer (Some s) groups = Err SessionExists
 attach_answer None groups = if nat_lt 16 groups then Err TooManyGroups else Ok New
 
+-- each event, by the session that it names
 abbrev pub answer_in : ℕ → List Session → SmfEvent → Result Seen SmfRefusal
 answer_in now sessions (Attach session subscriber groups moment) = attach_answer (session_of session sessions) (length groups)
 answer_in now sessions (Start session group moment) = on_session (session_of session sessions) (start_answer group moment)
@@ -120,6 +133,7 @@ answer_in now sessions (Tick moment) = if nat_lt moment now then Err (MomentBack
 answer_in now sessions (Detach session abnormal moment) = on_session (session_of session sessions) (detach_answer moment)
 answer_in now sessions (Answered session number reply) = on_session (session_of session sessions) (reply_answer number reply)
 
+-- the answer of a machine to an event
 abbrev pub answer_of : Machine → SmfEvent → Result Seen SmfRefusal
 answer_of m event = answer_in m.moment m.sessions event
 
@@ -157,6 +171,7 @@ effect now (Answered session number reply) s = answered_by now reply s.request s
 abbrev pub finished : SmfSetup → ℕ → Session → Session
 finished setup now s = dropped setup (freeze_due setup now (settled setup now s))
 
+-- a session after an event
 abbrev pub next_session : SmfSetup → ℕ → SmfEvent → Session → Session
 next_session setup now event s = if touches event s then finished setup now (effect now event s) else s
 
@@ -164,13 +179,16 @@ next_session setup now event s = if touches event s then finished setup now (eff
 abbrev pub entries_of : List ℕ → List Entry
 entries_of groups = fold (λ entries group. with_asked group entries) [] groups
 
+-- a session at its Attach, with no request yet
 abbrev pub fresh : SmfSetup → ℕ → List ℕ → List ℕ → ℕ → Session
 fresh setup number subscriber groups moment = record { number = number; subscriber = subscriber; reference = None; life = Live; last = moment; count = 0; reports = 0; at_once = false; failover = setup.failover; handling = setup.handling; groups = entries_of groups; holdings = []; rules = []; request = None }
 
+-- the session that an event adds, with its first request
 abbrev pub added_by : SmfSetup → ℕ → SmfEvent → List Session
 added_by setup now (Attach session subscriber groups moment) = finished setup now (with_request setup now Create (fresh setup session subscriber groups moment)) ∷ []
 added_by setup now other = []
 
+-- the machine after an event that is new
 abbrev pub stepped : Machine → SmfEvent → Machine
 stepped m event = record {
   setup = m.setup;
@@ -184,9 +202,11 @@ after_answer m event (Ok New) = stepped m event
 after_answer m event (Ok Known) = m
 after_answer m event (Err e) = m
 
+-- the machine after an event
 abbrev pub step : Machine → SmfEvent → Machine
 step m event = after_answer m event (answer_of m event)
 
+-- a machine without sessions
 abbrev pub empty : SmfSetup → Machine
 empty setup = record { setup = setup; moment = 0; sessions = [] }
 

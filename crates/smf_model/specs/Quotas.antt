@@ -20,6 +20,7 @@ pub record IsOfSteps (steps : List Step) (e : Entry) : Type 0 where
   pub due : FitsGranted e.quota.standing → (open_container : Option Container) (unsafe_hour : Bool) (now : ℕ) (limits : Limits) → due_of e.quota open_container unsafe_hour now limits ≡ due_of (by_list steps) open_container unsafe_hour now limits
   pub gate : FitsGranted e.quota.standing → gate_of e.quota ≡ gate_of (by_list steps)
 
+-- a rating group that the session has is as its steps leave it
 abbrev pub EntryIsOfSteps : List Step → Option Entry → Type 0
 EntryIsOfSteps steps None = steps ≡ []
 EntryIsOfSteps steps (Some e) = IsOfSteps steps e

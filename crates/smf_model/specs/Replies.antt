@@ -67,6 +67,7 @@ abbrev pub horizon_after : ℕ → Option UnitInfo → Option Horizon → Option
 horizon_after stamp None horizon = horizon
 horizon_after stamp (Some info) horizon = if is_some info.grant then Some (record { group = info.group; from = stamp; until = info.switch }) else horizon
 
+-- what an answer makes of a rating group
 abbrev pub answer_entry : ℕ → List UnitInfo → Entry → Entry
 answer_entry stamp units e = record e { quota = answered stamp (info_of e.number units) e.quota; horizon = horizon_after stamp (info_of e.number units) e.horizon }
 
@@ -75,10 +76,12 @@ abbrev pub group_layer : ℕ → Option UnitInfo → List Layer
 group_layer group None = []
 group_layer group (Some info) = record { group = Some group; rules = info.triggers } ∷ []
 
+-- those for the rating groups of the session
 abbrev pub group_layers : List UnitInfo → List Entry → List Layer
 group_layers units [] = []
 group_layers units (e ∷ entries) = group_layer e.number (info_of e.number units) ++ group_layers units entries
 
+-- all of them
 abbrev pub layers_of : Answer → List Entry → List Layer
 layers_of answer entries = record { group = None; rules = answer.triggers } ∷ group_layers answer.units entries
 
@@ -98,6 +101,7 @@ succeeded stamp reference answer s = record s {
 abbrev pub released : ℕ → Session → Session
 released now s = ended now (record s { holdings = map answer_holding s.holdings })
 
+-- what a final reply makes of the session, by its kind
 abbrev pub replied : ℕ → ℕ → Reply → Session → Session
 replied now stamp (Created reference answer) s = succeeded stamp (Some reference) answer s
 replied now stamp (Updated answer) s = succeeded stamp None answer s

@@ -42,6 +42,7 @@ abbrev pub AreCountedFrom : ℕ → List Report → Type 0
 AreCountedFrom next [] = Unit {0}
 AreCountedFrom next (r ∷ rs) = (r.number ≡ next) × AreCountedFrom (next + 1) rs
 
+-- the containers alone
 abbrev pub containers_in : List Holding → List Container
 containers_in holdings = map (λ h. h.container) holdings
 

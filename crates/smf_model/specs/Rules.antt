@@ -32,9 +32,11 @@ category_in group trigger layers = fold (λ earlier layer. or_earlier (option_ma
 abbrev pub volume_in : Option ℕ → List Layer → Option ℕ
 volume_in group layers = fold (λ earlier layer. or_earlier (option_and_then (λ r. r.volume) (rule_for group VolumeLimit layer)) earlier) None layers
 
+-- the latest time limit
 abbrev pub seconds_in : Option ℕ → List Layer → Option ℕ
 seconds_in group layers = fold (λ earlier layer. or_earlier (option_and_then (λ r. r.seconds) (rule_for group TimeLimit layer)) earlier) None layers
 
+-- the latest number of changes, which is the session's
 abbrev pub changes_in : List Layer → Option ℕ
 changes_in layers = fold (λ earlier layer. or_earlier (option_and_then (λ r. r.changes) (rule_for None MaxNumberOfChangesInChargingConditions layer)) earlier) None layers
 
@@ -42,6 +44,7 @@ changes_in layers = fold (λ earlier layer. or_earlier (option_and_then (λ r. r
 abbrev pub is_immediate : Session → TriggerType → Bool
 is_immediate s trigger = unwrap_or (category_in None trigger s.rules) (is_immediate_by_default trigger)
 
+-- for a rating group
 abbrev pub is_immediate_for : Session → ℕ → TriggerType → Bool
 is_immediate_for s group trigger = unwrap_or (category_in (Some group) trigger s.rules) (is_immediate s trigger)
 

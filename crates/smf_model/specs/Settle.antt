@@ -14,14 +14,17 @@ use Rattle.smf_model.specs.declared.session.Entry.{Entry}
 use Rattle.smf_model.specs.declared.session.Session.{Session}
 use Rattle.smf_model.specs.Rules.{is_immediate_for, limits_of}
 
+-- a container is open
 abbrev pub is_open : Place → Bool
 is_open Open = true
 is_open other = false
 
+-- a container waits
 abbrev pub is_waiting : Place → Bool
 is_waiting Waiting = true
 is_waiting other = false
 
+-- a container is frozen
 abbrev pub is_frozen : Place → Bool
 is_frozen Frozen = true
 is_frozen other = false
@@ -30,10 +33,12 @@ is_frozen other = false
 abbrev pub is_open_of : ℕ → Holding → Bool
 is_open_of group h = (h.container.group == group) && is_open h.place
 
+-- the container alone
 abbrev pub container_in : Option Holding → Option Container
 container_in None = None
 container_in (Some h) = Some h.container
 
+-- the open container of a rating group
 abbrev pub open_of : ℕ → List Holding → Option Container
 open_of group holdings = container_in (find (is_open_of group) holdings)
 
@@ -45,6 +50,7 @@ entry_of group entries = find (λ e. e.number == group) entries
 abbrev pub due_with : SmfSetup → ℕ → Session → Option Container → Entry → Option TriggerType
 due_with setup now s container e = due_of e.quota container (in_open container (λ c. has_unsafe e.horizon c.last now)) now (limits_of setup s e.number)
 
+-- the first due trigger of a rating group
 abbrev pub due_in : SmfSetup → ℕ → Session → Entry → Option TriggerType
 due_in setup now s e = due_with setup now s (open_of e.number s.holdings) e
 
@@ -58,10 +64,12 @@ abbrev pub close : ℕ → Option TriggerType → Holding → Holding
 close moment None h = h
 close moment (Some trigger) h = record h { trigger = Some trigger; moment = moment; place = Waiting }
 
+-- that of a rating group which the session may not have
 abbrev pub due_at : SmfSetup → ℕ → Session → Option Entry → Option TriggerType
 due_at setup now s None = None
 due_at setup now s (Some e) = due_in setup now s e
 
+-- an open container is closed by what is due in its rating group
 abbrev pub close_due : SmfSetup → ℕ → Session → Holding → Holding
 close_due setup now s h = if is_open h.place then close now (due_at setup now s (entry_of h.container.group s.groups)) h else h
 

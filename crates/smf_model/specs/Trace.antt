@@ -29,6 +29,7 @@ abbrev pub close_moves : ℕ → Holding → Option TriggerType → List Move
 close_moves moment h None = []
 close_moves moment h (Some trigger) = Closes (record { container = h.container; trigger = trigger; moment = moment }) ∷ []
 
+-- container by container
 abbrev pub closes_of : ℕ → (Holding → Option TriggerType) → List Holding → List Move
 closes_of moment closing [] = []
 closes_of moment closing (h ∷ holdings) = close_moves moment h (closing h) ++ closes_of moment closing holdings
@@ -46,6 +47,7 @@ abbrev pub freeze_moves_by : SmfSetup → ℕ → Session → Option Operation �
 freeze_moves_by setup now s None = []
 freeze_moves_by setup now s (Some operation) = Freezes (request_of setup now s operation) ∷ []
 
+-- the request that is due is frozen
 abbrev pub freeze_moves : SmfSetup → ℕ → Session → List Move
 freeze_moves setup now s = freeze_moves_by setup now s (next_operation setup s)
 
@@ -67,10 +69,12 @@ ending_moves now (Updated answer) s = []
 ending_moves now Released s = closes_all now AbnormalRelease s
 ending_moves now (Refused problem) s = closes_all now AbnormalRelease s
 
+-- a reply to the unanswered request, and what it closes
 abbrev pub reply_moves : ℕ → Reply → Option Request → Session → List Move
 reply_moves now reply None s = []
 reply_moves now reply (Some q) s = Answers reply ∷ ending_moves now reply s
 
+-- what an event's own effect closes and answers
 abbrev pub effect_moves : ℕ → SmfEvent → Session → List Move
 effect_moves now (Attach session subscriber groups moment) s = []
 effect_moves now (Start session group moment) s = []
@@ -80,6 +84,7 @@ effect_moves now (Tick moment) s = []
 effect_moves now (Detach session abnormal moment) s = closes_all moment (if abnormal then AbnormalRelease else Final) s
 effect_moves now (Answered session number reply) s = reply_moves now reply s.request s
 
+-- what an event does to a session
 abbrev pub session_moves : SmfSetup → ℕ → SmfEvent → Session → List Move
 session_moves setup now event s = if touches event s then finish_moves setup now (effect now event s) ++ effect_moves now event s else []
 
@@ -91,10 +96,12 @@ added_moves setup now number (Attach session subscriber groups moment) =
     else []
 added_moves setup now number other = []
 
+-- what an event does to the session of this number, or adds
 abbrev pub moves_of : SmfSetup → ℕ → ℕ → SmfEvent → Option Session → List Move
 moves_of setup now number event None = added_moves setup now number event
 moves_of setup now number event (Some s) = session_moves setup now event s
 
+-- only an event that is new does something
 abbrev pub moves_if : Machine → ℕ → SmfEvent → Result Seen SmfRefusal → List Move
 moves_if m number event (Ok New) = moves_of m.setup (now_after m.moment event) number event (session_of number m.sessions)
 moves_if m number event (Ok Known) = []
@@ -141,6 +148,7 @@ pub record Agrees (t : List Move) (s : Session) : Type 0 where
   pub when_idle : FreezeWhenIdle t
   pub idle : is_some s.request ≡ false → is_ended s.life ≡ false → is_idle t ≡ true
 
+-- a session is as its moves leave it
 abbrev pub AgreesWith : List Move → Option Session → Type 0
 AgreesWith t None = t ≡ []
 AgreesWith t (Some s) = Agrees t s

@@ -18,6 +18,7 @@ use Rattle.smf_model.specs.declared.session.Session.{Session}
 use Rattle.smf_model.specs.Rules.{is_immediate, is_immediate_for}
 use Rattle.smf_model.specs.Settle.{is_open, is_waiting, is_frozen, is_open_of, open_of, entry_of, fire, close, is_at_once}
 
+-- the horizon of a rating group that the session may not have
 abbrev pub horizon_in : Option Entry → Option Horizon
 horizon_in None = None
 horizon_in (Some e) = e.horizon
@@ -27,6 +28,7 @@ abbrev pub closes_before : Option Horizon → Report → Option Container → Op
 closes_before horizon r None = None
 closes_before horizon r (Some c) = if may_join horizon c r then None else Some (trigger_of horizon c r)
 
+-- the open container of a rating group is closed, where something closes it
 abbrev pub close_of : ℕ → ℕ → Option TriggerType → Holding → Holding
 close_of group moment trigger h = if is_open_of group h then close moment trigger h else h
 
@@ -41,12 +43,15 @@ pub record SumsFit (c : Container) (r : Report) : Type 0 where
 abbrev pub extend_of : Report → Holding → Holding
 extend_of r h = if is_open_of r.group h then record h { container = extended h.container r } else h
 
+-- a container that a report opens
 abbrev pub first_of : ℕ → Report → Holding
 first_of lsn r = record { container = opened lsn r; trigger = None; moment = r.moment; place = Open }
 
+-- a report is taken into the group's open container, or opens one
 abbrev pub joined : Report → List Holding → List Holding
 joined r holdings = if list_any (is_open_of r.group) holdings then map (extend_of r) holdings else holdings ++ first_of (length holdings + 1) r ∷ []
 
+-- what closes the open container does so before
 abbrev pub taken : Report → Option TriggerType → List Holding → List Holding
 taken r trigger holdings = joined r (map (close_of r.group r.moment trigger) holdings)
 
@@ -54,6 +59,7 @@ taken r trigger holdings = joined r (map (close_of r.group r.moment trigger) hol
 abbrev pub count_entry : Report → Entry → Entry
 count_entry r e = if e.number == r.group then record e { expected = r.number + 1; quota = used (r.up + r.down) r.seconds r.moment e.quota } else e
 
+-- a report is counted after this close
 abbrev pub counted_by : Report → Option TriggerType → Session → Session
 counted_by r trigger s = record s {
   last = r.moment;
@@ -71,10 +77,12 @@ counted r s = counted_by r (closes_before (horizon_in (entry_of r.group s.groups
 abbrev pub new_entry : ℕ → Entry
 new_entry group = record { number = group; expected = 1; quota = new_quota; horizon = None }
 
+-- a rating group, or a new one
 abbrev pub or_new : ℕ → Option Entry → Entry
 or_new group None = new_entry group
 or_new group (Some e) = e
 
+-- a rating group that wishes for quota
 abbrev pub asked_entry : Entry → Entry
 asked_entry e = record e { quota = asked e.quota }
 
@@ -95,6 +103,7 @@ close_any moment trigger h = if is_open h.place then close moment (Some trigger)
 abbrev pub has_open : Session → Bool
 has_open s = list_any (λ h. is_open h.place) s.holdings
 
+-- a change is of immediate category for the session
 abbrev pub is_change_at_once : Session → TriggerType → Bool
 is_change_at_once s trigger =
     if has_open s
@@ -126,5 +135,6 @@ ended now s = record (without_traffic Ended now AbnormalRelease s) { request = N
 abbrev pub give_up : Why → Holding → Holding
 give_up why h = if is_waiting h.place || is_frozen h.place then record h { place = GivenUp why } else h
 
+-- the charging session is over for this cause
 abbrev pub ended_for : Why → ℕ → Session → Session
 ended_for why now s = record (ended now s) { holdings = map (give_up why) (ended now s).holdings }
