@@ -2,7 +2,6 @@ pub mod Merged
 pub mod Wide
 pub mod Indexed
 pub mod Places
-pub mod Said
 pub mod Lengths
 pub mod KeptRight
 pub mod Nexts

@@ -1,23 +1,16 @@
 -- What is kept of a session for speed: only what is held is looked at as events come. Of the public clauses only those on plans name some of these.
-use Rattle.std.specs.Prelude.{◌≡◌, ℕ, ◌+◌, ◌-◌, nat_lt, Bool, if◌then◌else◌, Option, Some, None, List, [], ◌∷◌, ◌++◌, map, filter, length, slice_set, slice_index}
-use Rattle.units.specs.declared.trigger.TriggerType.{TriggerType}
+use Rattle.std.specs.Prelude.{◌≡◌, ℕ, ◌+◌, ◌-◌, nat_lt, Bool, if◌then◌else◌, Option, unwrap_or, List, [], ◌∷◌, ◌++◌, map, filter, length, slice_set, slice_index}
 use Rattle.smf_model.specs.declared.session.Holding.{Holding}
-use Rattle.smf_model.specs.declared.session.Layer.{Layer}
+use Rattle.smf_model.specs.declared.session.Rule.{Rule}
 use Rattle.smf_model.specs.declared.session.Session.{Session}
 use Rattle.units.specs.declared.request.Request.{Request}
-use Rattle.units.specs.declared.reply.Reply.{Reply}
-use Rattle.units.specs.declared.reply.Reply.TheVariants.{Created, Updated, Released, Refused}
 use Rattle.smf_model.specs.declared.session.Entry.{Entry}
 use Rattle.smf_model.specs.declared.event.SmfEvent.{SmfEvent}
-use Rattle.smf_model.specs.declared.event.SmfEvent.TheVariants.{Answered}
-use Rattle.smf_model.specs.Replies.{layers_of}
 use Rattle.smf_model.specs.declared.setup.SmfSetup.{SmfSetup}
 use Rattle.smf_model.specs.Machine.{effect, finished}
-use Rattle.smf_model.specs.Rules.{category_in, volume_in, seconds_in, changes_in}
 use Rattle.smf_core.specs.declared.draft.Course.{Course}
 use Rattle.smf_core.specs.declared.draft.Pending.{Pending}
 use Rattle.smf_core.specs.declared.draft.Draft.{Draft}
-use Rattle.smf_core.specs.declared.plan.RuleChange.{RuleChange}
 use Rattle.smf_core.specs.declared.plan.Change.{Change}
 use Rattle.smf_core.specs.Draft.{request_after}
 use Rattle.smf_core.specs.Reads.{is_held, containers_of}
@@ -39,33 +32,9 @@ abbrev pub places_from : ℕ → List Holding → List ℕ
 places_from i [] = []
 places_from i (h ∷ all) = if is_held h then i ∷ places_from (i + 1) all else places_from (i + 1) all
 
--- two lists of trigger rules that say the same
-pub record SaysSame (rules others : List Layer) : Type 0 where
-  pub category : (group : Option ℕ) (trigger : TriggerType) → category_in group trigger rules ≡ category_in group trigger others
-  pub volume : (group : Option ℕ) → volume_in group rules ≡ volume_in group others
-  pub seconds : (group : Option ℕ) → seconds_in group rules ≡ seconds_in group others
-  pub changes : changes_in rules ≡ changes_in others
-
--- a session of which only what is held is kept, with all its containers and its rules
-abbrev pub wide : List Holding → List Layer → Session → Session
-wide all rules s = record s { holdings = merged all s.holdings; rules = rules }
-
--- the trigger rules that an event adds
-abbrev pub layers_by : Reply → List Entry → List Layer
-layers_by (Created reference answer) entries = layers_of answer entries
-layers_by (Updated answer) entries = layers_of answer entries
-layers_by Released entries = []
-layers_by (Refused problem) entries = []
-
--- the trigger rules that a reply to the unanswered request adds
-abbrev pub layers_for : Reply → Option Request → List Entry → List Layer
-layers_for reply None entries = []
-layers_for reply (Some q) entries = layers_by reply entries
-
--- the trigger rules that an event adds to a session
-abbrev pub layers_added : SmfEvent → Session → List Layer
-layers_added (Answered session number reply) s = layers_for reply s.request s.groups
-layers_added other s = []
+-- a session of which only what is held is kept, with all its containers
+abbrev pub wide : List Holding → Session → Session
+wide all s = record s { holdings = merged all s.holdings }
 
 -- others written at places, one after another; what is left of them comes at the end
 abbrev pub put_places : {A : Type 0} → List ℕ → List A → List A → List A
@@ -79,32 +48,12 @@ live_after places count [] = []
 live_after [] count (k ∷ next) = if is_held k then count ∷ live_after [] (count + 1) next else live_after [] (count + 1) next
 live_after (p ∷ places) count (k ∷ next) = if is_held k then p ∷ live_after places count next else live_after places count next
 
--- rules in the order in which answers set them, a list for each answer
-abbrev pub all_layers : List (List Layer) → List Layer
-all_layers [] = []
-all_layers (layers ∷ lists) = layers ++ all_layers lists
-
--- these are the trigger rules that are added; none where there is no list
-abbrev pub AddsLayers : Option (List Layer) → List Layer → Type 0
-AddsLayers None added = added ≡ []
-AddsLayers (Some layers) added = layers ≡ added
-
--- the rules that a change adds
-abbrev pub layers_in : Option RuleChange → List Layer
-layers_in None = []
-layers_in (Some a) = a.added
-
--- a change of the rules adds these, and keeps what all of them say
-abbrev pub ChangesRules : Option RuleChange → List Layer → List Layer → Type 0
-ChangesRules None rules added = added ≡ []
-ChangesRules (Some a) rules added = (a.added ≡ added) × SaysSame (rules ++ added) a.said
-
 -- the place of the one at an index of those that came after so many of which these were held
 abbrev pub place_at : List ℕ → ℕ → ℕ → ℕ
 place_at places count i = if nat_lt i (length places) then slice_index places i else count + (i - length places)
 
 -- a change by its parts
-pub record HasParts (c : Change) (d : Draft) (change : Option RuleChange) (before : List ℕ) (count : ℕ) : Type 0 where
+pub record HasParts (c : Change) (d : Draft) (before : List ℕ) (count : ℕ) : Type 0 where
   pub course : c.course ≡ d.course
   pub groups : c.groups ≡ d.groups
   pub moved : c.moved ≡ d.holdings
@@ -113,11 +62,15 @@ pub record HasParts (c : Change) (d : Draft) (change : Option RuleChange) (befor
   pub live : c.live ≡ filter is_held c.moved
   pub places : c.places ≡ live_after before count c.moved
   pub held : c.held ≡ containers_of c.live
-  pub rules : c.rules ≡ change
+  pub rules : c.rules ≡ d.rules
 
--- a session as a change leaves it, by its containers and its rules
-abbrev pub session_with : Change → Session → List Holding → List Layer → Session
-session_with c s holdings rules = record {
+-- the trigger rules, which a change may leave as they are
+abbrev pub rules_left : List Rule → Option (List Rule) → List Rule
+rules_left before rules = unwrap_or rules before
+
+-- a session as a change leaves it, by its containers
+abbrev pub session_with : Change → Session → List Holding → Session
+session_with c s holdings = record {
   number = s.number;
   subscriber = s.subscriber;
   reference = c.course.reference;
@@ -130,43 +83,37 @@ session_with c s holdings rules = record {
   handling = c.course.handling;
   groups = c.groups;
   holdings = holdings;
-  rules = rules;
+  rules = rules_left s.rules c.rules;
   request = request_after s.request c.pending;
 }
 
 -- a change is what came of a session of which only what is held is kept
-pub record IsMade (c : Change) (before : Session) (at : List ℕ) (count : ℕ) (added : List Layer) (after : Session) : Type 0 where
-  pub session : session_with c before c.moved after.rules ≡ after
+pub record IsMade (c : Change) (before : Session) (at : List ℕ) (count : ℕ) (after : Session) : Type 0 where
+  pub session : session_with c before c.moved ≡ after
   pub containers : c.containers ≡ containers_of c.moved
   pub live : c.live ≡ filter is_held c.moved
   pub places : c.places ≡ live_after at count c.moved
   pub held : c.held ≡ containers_of c.live
-  pub rules : ChangesRules c.rules before.rules added
 
 -- what is kept of a session is right
-pub record IsKept (s : Session) (all : List Holding) (layers : List Layer) (at : List ℕ) (every some : List Container) : Type 0 where
+pub record IsKept (s : Session) (all : List Holding) (at : List ℕ) (every some : List Container) : Type 0 where
   pub live : s.holdings ≡ filter is_held all
   pub places : at ≡ places_from 0 all
   pub containers : every ≡ containers_of all
   pub held : some ≡ containers_of s.holdings
-  pub rules : SaysSame layers s.rules
 
 -- a session that is kept so, and for how many more containers there is a place
 pub record KeptAs : Type 0 where
   pub session : Session
   pub room : ℕ
 
--- a list of trigger rules that says something
-abbrev pub says : Layer → Bool
-says layer = nat_lt 0 (length layer.rules)
+-- a session with all its containers
+abbrev pub full : Session → List Holding → Session
+full s all = record s { holdings = all }
 
--- a session with all its containers and trigger rules
-abbrev pub full : Session → List Holding → List Layer → Session
-full s all rules = record s { holdings = all; rules = rules }
-
--- what events look at, after a change of the numbers and marks, the rating groups, what is held and the unanswered request
-abbrev pub after_change : Session → Course → List Entry → List Holding → Pending → Session
-after_change s course groups live pending = record {
+-- what events look at, after a change of the numbers and marks, the rating groups, what is held, the rules and the unanswered request
+abbrev pub after_change : Session → Course → List Entry → List Holding → Option (List Rule) → Pending → Session
+after_change s course groups live rules pending = record {
   number = s.number;
   subscriber = s.subscriber;
   reference = course.reference;
@@ -179,14 +126,9 @@ after_change s course groups live pending = record {
   handling = course.handling;
   groups = groups;
   holdings = live;
-  rules = s.rules;
+  rules = rules_left s.rules rules;
   request = request_after s.request pending;
 }
-
--- what the rules say after a change of them
-abbrev pub said_after : Option RuleChange → List Layer → List Layer
-said_after None said = said
-said_after (Some a) said = a.said
 
 -- the sessions that are kept, and their numbers
 abbrev pub sessions_of : List KeptAs → List Session

@@ -1,10 +1,8 @@
 -- A plan: what an event makes of the machine, as what it makes of the sessions that it touches and the session that it adds (this product's own).
 use Rattle.std.specs.Prelude.{◌≡◌, ◌⊎◌, ℕ, zero, suc, ◌+◌, ◌<◌, ◌≤◌, Option, Some, None, List, [], ◌∷◌, ◌++◌, length, filter, Ok, Err}
-use Rattle.smf_model.specs.declared.session.Layer.{Layer}
 use Rattle.smf_model.specs.declared.session.Session.{Session}
 use Rattle.smf_model.specs.declared.session.Machine.{Machine}
 use Rattle.smf_model.specs.declared.event.SmfEvent.{SmfEvent}
-use Rattle.smf_core.specs.declared.plan.RuleChange.{RuleChange}
 use Rattle.smf_core.specs.declared.plan.Change.{Change}
 use Rattle.smf_core.specs.declared.plan.Next.{Next}
 use Rattle.smf_core.specs.declared.plan.Next.TheVariants.{Nothing, One, All}
@@ -14,21 +12,11 @@ use Rattle.smf_model.specs.declared.refusal.SmfRefusal.TheVariants.{OutOfMemory}
 use Rattle.smf_model.specs.Machine.{answer_of, step}
 use Rattle.smf_core.specs.Index.{place_in}
 use Rattle.smf_core.specs.Reads.{is_held, containers_of}
-use Rattle.smf_core.specs.Caches.{merged, places_from, SaysSame, session_with, KeptAs, numbers_of}
-
--- the trigger rules with those that are added
-abbrev pub rules_with : List Layer → Option RuleChange → List Layer
-rules_with rules None = rules
-rules_with rules (Some a) = rules ++ a.added
+use Rattle.smf_core.specs.Caches.{merged, places_from, session_with, KeptAs, numbers_of}
 
 -- a session as a change leaves it
 abbrev pub changed : Change → Session → Session
-changed c s = session_with c s (merged s.holdings c.moved) (rules_with s.rules c.rules)
-
--- what is kept of all trigger rules says what they say
-abbrev pub RulesFit : Option RuleChange → List Layer → Type 0
-RulesFit None rules = Unit {0}
-RulesFit (Some a) rules = SaysSame (rules ++ a.added) a.said
+changed c s = session_with c s (merged s.holdings c.moved)
 
 -- a change fits to a session: it was made for it
 pub record Fits (c : Change) (s : Session) : Type 0 where
@@ -38,7 +26,6 @@ pub record Fits (c : Change) (s : Session) : Type 0 where
   pub live : c.live ≡ filter is_held c.moved
   pub places : c.places ≡ places_from 0 (merged s.holdings c.moved)
   pub held : c.held ≡ containers_of c.live
-  pub rules : RulesFit c.rules s.rules
 
 -- at a place
 abbrev pub map_at : ℕ → (Session → Session) → List Session → List Session

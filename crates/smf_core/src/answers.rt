@@ -2,15 +2,15 @@
 ghost use Rattle.std.specs.Prelude.{◌≡◌, ◌==◌, ◌++◌, ◌∷◌, [], IfOk, OnOk, map};
 ghost use Rattle.std.specs.List.{find};
 ghost use Rattle.std.specs.Option.{option_copied};
-ghost use Rattle.smf_core.specs.Caches.{AddsLayers, layers_by, layers_for, layers_added};
 ghost use Rattle.smf_core.specs.Draft.{whole};
-ghost use Rattle.smf_model.specs.Replies.{is_named, is_bad_request, is_final_refusal, is_final_for, is_answer_to, answer_holding, info_of, horizon_after, answer_entry, group_layers, layers_of, succeeded, released, replied, answered_by};
+ghost use Rattle.smf_model.specs.Replies.{is_named, is_bad_request, is_final_refusal, is_final_for, is_answer_to, answer_holding, info_of, horizon_after, answer_entry, with_info_rules, with_group_rules, rules_after, succeeded, released, replied, answered_by};
 
 use crate::draft::{Draft, Pending, request_of, rules_of};
 use crate::ending::{end, end_for};
 use crate::freeze::is_frozen_place;
 use meter::Horizon;
-use smf_model::{Entry, Holding, Layer, Place, Session, SmfEvent, Why};
+use crate::rules::with_rules;
+use smf_model::{Entry, Holding, Place, Rule, Session, Why};
 use std::alloc::Global;
 use units::{
     Answer, Cause, List, Moment, Operation, OutOfMemory, Problem, Reply, Request, TriggerRule,
@@ -145,76 +145,36 @@ fn answered_entries(
     Ok(next)
 }
 
-fn layer(group: Option<u32>, rules: &List<TriggerRule>) -> Result<Layer, OutOfMemory>
-    ensures { IfOk result (λ r. r ≡ record { group = group; rules = rules.now }) }
+// The trigger rules with those of an answer for one rating group.
+fn with_group_rules(
+    alloc: Global,
+    units: &[UnitInfo],
+    rules: Vec<Rule>,
+    group: u32,
+) -> Result<Vec<Rule>, OutOfMemory>
+    ensures { IfOk result (λ v. v.items ≡ with_info_rules group (info_of group units.now) rules.items) }
 {
-    let rules = copy(rules)?;
-    Ok(Layer { group, rules })
+    match info_in(units, group) {
+        None => Ok(rules),
+        Some(info) => with_rules(alloc, Some(group), info.triggers.as_slice(), rules),
+    }
 }
 
-// The trigger rules so far, and those of an answer.
-fn with_rules(
+// The trigger rules with those of an answer.
+fn rules_after(
+    alloc: Global,
     answer: &Answer,
     groups: &[Entry],
-    rules: &List<Layer>,
-) -> Result<List<Layer>, OutOfMemory>
-    ensures { IfOk result (λ r. r ≡ rules.now ++ layers_of answer.now groups.now) }
+    rules: &[Rule],
+) -> Result<Vec<Rule>, OutOfMemory>
+    ensures { IfOk result (λ v. v.items ≡ rules_after answer.now groups.now rules.now) }
 {
-    let mut layers = copy(rules)?;
-    layers.push(layer(None, &answer.triggers)?)?;
+    let before = Vec::from_slice(alloc, rules)?;
+    let mut next = with_rules(alloc, None, answer.triggers.as_slice(), before)?;
     for entry in groups {
-        match info_in(answer.units.as_slice(), entry.number) {
-            None => {}
-            Some(info) => layers.push(layer(Some(entry.number), &info.triggers)?)?,
-        }
+        next = with_group_rules(alloc, answer.units.as_slice(), next, entry.number)?;
     }
-    Ok(layers)
-}
-
-fn layers_in_reply(
-    alloc: Global,
-    reply: &Reply,
-    groups: &[Entry],
-) -> Result<Option<List<Layer>>, OutOfMemory>
-    ensures { IfOk result (λ r. AddsLayers r (layers_by reply.now groups.now)) }
-{
-    match reply {
-        Reply::Created { answer, .. } | Reply::Updated { answer } => {
-            let layers = with_rules(answer, groups, &List::new(alloc))?;
-            Ok(Some(layers))
-        }
-        Reply::Released | Reply::Refused { .. } => Ok(None),
-    }
-}
-
-fn layers_answered(
-    alloc: Global,
-    reply: &Reply,
-    request: &Option<Request>,
-    groups: &[Entry],
-) -> Result<Option<List<Layer>>, OutOfMemory>
-    ensures { IfOk result (λ r. AddsLayers r (layers_for reply.now request.now groups.now)) }
-{
-    match request {
-        None => Ok(None),
-        Some(_) => layers_in_reply(alloc, reply, groups),
-    }
-}
-
-/// The trigger rules that an event adds to a session.
-pub fn added_layers(
-    alloc: Global,
-    event: &SmfEvent,
-    before: &Session,
-) -> Result<Option<List<Layer>>, OutOfMemory>
-    ensures { IfOk result (λ r. AddsLayers r (layers_added event.now before.now)) }
-{
-    match event {
-        SmfEvent::Answered { reply, .. } => {
-            layers_answered(alloc, reply, &before.request, before.groups.as_slice())
-        }
-        _ => Ok(None),
-    }
+    Ok(next)
 }
 
 fn succeed(
@@ -230,14 +190,14 @@ fn succeed(
     let holdings = all_answered(alloc, draft.holdings.as_slice())?;
     let groups = draft.groups.as_slice();
     let entries = answered_entries(alloc, stamp, answer.units.as_slice(), groups)?;
-    let rules = with_rules(answer, groups, rules_of(before, draft))?;
+    let rules = rules_after(alloc, answer, groups, rules_of(before, draft).as_slice())?;
     draft.pending = Pending::Nothing;
     draft.course.reference = reference.or(draft.course.reference);
     draft.course.failover = answer.failover.unwrap_or(draft.course.failover);
     draft.course.handling = answer.handling.unwrap_or(draft.course.handling);
     draft.holdings = List::from_vec(holdings);
     draft.groups = List::from_vec(entries);
-    draft.rules = Some(rules);
+    draft.rules = Some(List::from_vec(rules));
     Ok(())
 }
 

@@ -1,17 +1,16 @@
 //! What an event changes of a session of which only what is held is kept.
-ghost use Rattle.std.specs.Prelude.{◌≡◌, ◌-◌, ◌++◌, IfOk, length, map, filter};
+ghost use Rattle.std.specs.Prelude.{◌≡◌, ◌-◌, IfOk, length, map, filter};
 ghost use Rattle.smf_core.specs.Draft.{effect_past};
 ghost use Rattle.smf_model.specs.Machine.{finished};
 ghost use Rattle.smf_core.specs.Reads.{is_held, is_held_at, containers_of};
-ghost use Rattle.smf_core.specs.Caches.{live_after, layers_added, place_at, says, SaysSame, IsMade, HasParts, ChangesRules};
+ghost use Rattle.smf_core.specs.Caches.{live_after, place_at, IsMade, HasParts};
 
-use crate::answers::added_layers;
 use crate::draft::Draft;
-use crate::plan::{Change, RuleChange};
+use crate::plan::Change;
 use crate::step::draft_after;
-use smf_model::{Holding, Layer, Place, Session, SmfEvent, SmfSetup};
+use smf_model::{Holding, Place, Session, SmfEvent, SmfSetup};
 use std::alloc::Global;
-use units::{Container, List, Moment, OutOfMemory, copy};
+use units::{Container, List, Moment, OutOfMemory};
 
 /// Whether a container is held.
 pub fn is_held_holding(holding: &Holding) -> bool
@@ -72,57 +71,19 @@ fn places_after(
     Ok(next)
 }
 
-// The rules, and those of an answer that say something.
-fn with_saying(before: &List<Layer>, added: &List<Layer>) -> Result<List<Layer>, OutOfMemory>
-    ensures { IfOk result (λ r. r ≡ before.now ++ filter says added.now) }
-{
-    let mut said = copy(before)?;
-    for layer in added.as_slice() {
-        if layer.rules.len() > 0 {
-            said.push(copy(layer)?)?;
-        }
-    }
-    Ok(said)
-}
-
-// What the rules say, with those of an answer.
-fn said_with(before: &List<Layer>, added: &List<Layer>) -> Result<List<Layer>, OutOfMemory>
-    ensures { IfOk result (λ r. SaysSame (before.now ++ added.now) r) }
-{
-    let said = with_saying(before, added)?;
-    Ok(said)
-}
-
-fn rule_change(
-    alloc: Global,
-    before: &Session,
-    event: &SmfEvent,
-) -> Result<Option<RuleChange>, OutOfMemory>
-    ensures { IfOk result (λ r. ChangesRules r before.now.rules (layers_added event.now before.now)) }
-{
-    match added_layers(alloc, event, before)? {
-        None => Ok(None),
-        Some(added) => {
-            let said = said_with(&before.rules, &added)?;
-            Ok(Some(RuleChange { added, said }))
-        }
-    }
-}
-
 fn change_from(
     alloc: Global,
     places: &[usize],
     count: usize,
-    rules: Option<RuleChange>,
     draft: Draft,
 ) -> Result<Change, OutOfMemory>
-    ensures { IfOk result (λ c. HasParts c draft rules places.now count) }
+    ensures { IfOk result (λ c. HasParts c draft places.now count) }
 {
     let Draft {
         course,
         groups,
         holdings,
-        rules: _,
+        rules,
         pending,
     } = draft;
     let containers = containers_from(alloc, holdings.as_slice())?;
@@ -152,10 +113,9 @@ pub fn change_of(
     places: &[usize],
     count: usize,
 ) -> Result<Change, OutOfMemory>
-    ensures { IfOk result (λ c. IsMade c before.now places.now count (layers_added event.now before.now) (finished setup.now now (effect_past (count - length places.now) now event.now before.now))) }
+    ensures { IfOk result (λ c. IsMade c before.now places.now count (finished setup.now now (effect_past (count - length places.now) now event.now before.now))) }
 {
     let past = count.saturating_sub(places.len());
     let draft = draft_after(alloc, setup, past, now, event, before)?;
-    let rules = rule_change(alloc, before, event)?;
-    change_from(alloc, places, count, rules, draft)
+    change_from(alloc, places, count, draft)
 }

@@ -3,7 +3,7 @@ ghost use Rattle.std.specs.Prelude.{◌≡◌, IfOk};
 ghost use Rattle.std.specs.Option.{option_copied};
 ghost use Rattle.smf_core.specs.Draft.{whole, course_in, request_after};
 
-use smf_model::{Entry, Holding, Layer, Life, Session};
+use smf_model::{Entry, Holding, Life, Rule, Session};
 use std::alloc::Global;
 use units::{Handling, List, Moment, OutOfMemory, Request};
 
@@ -38,12 +38,12 @@ pub struct Draft {
     pub groups: List<Entry>,
     pub holdings: List<Holding>,
     /// The trigger rules, where they are not as before.
-    pub rules: Option<List<Layer>>,
+    pub rules: Option<List<Rule>>,
     pub pending: Pending,
 }
 
 /// The trigger rules of a session in the course of an event.
-pub fn rules_of<'a>(before: &'a Session, draft: &'a Draft) -> &'a List<Layer>
+pub fn rules_of<'a>(before: &'a Session, draft: &'a Draft) -> &'a List<Rule>
     ensures { result.now ≡ (whole before.now draft.now).rules }
 {
     match &draft.rules {

@@ -4,27 +4,26 @@ ghost use Rattle.std.specs.Option.{option_copied};
 ghost use Rattle.smf_model.specs.Machine.{touches, effect, finished, gate_for, expected_of};
 ghost use Rattle.smf_core.specs.Lookup.{answer_at};
 ghost use Rattle.smf_core.specs.Reads.{is_held, containers_of, held_of};
-ghost use Rattle.smf_core.specs.Plan.{changed, Fits, rules_with};
-ghost use Rattle.smf_core.specs.Caches.{all_layers, said_after, put_places, places_from, after_change};
+ghost use Rattle.smf_core.specs.Plan.{changed, Fits};
+ghost use Rattle.smf_core.specs.Caches.{put_places, places_from, rules_left, after_change};
 
 use crate::change::{change_of, containers_from, held_from, is_held_holding};
 use crate::checks::{check_found, expected, gate};
 use crate::draft::{Course, Pending, request_left};
-use crate::plan::{Change, RuleChange};
+use crate::plan::Change;
 use crate::step::is_touched;
 use quotas::Gate;
-use smf_model::{Entry, Holding, Layer, Seen, Session, SmfEvent, SmfRefusal, SmfSetup};
+use smf_model::{Entry, Holding, Rule, Seen, Session, SmfEvent, SmfRefusal, SmfSetup};
 use std::alloc::Global;
 use std::marker::Model;
 use std::mem;
-use units::{Container, List, Moment, OutOfMemory, Request, copy};
+use units::{Container, List, Moment, OutOfMemory, Request};
 
-/// A session as the machine keeps it: what events look at, which is what is held, beside all its containers and trigger rules.
+/// A session as the machine keeps it: what events look at, which is what is held, beside all its containers.
 #[derive(Drop)]
 pub struct Kept {
     session: Session,
     holdings: Vec<Holding>,
-    rules: Vec<List<Layer>>,
     places: List<usize>,
     containers: Vec<Container>,
     held: List<Container>,
@@ -32,13 +31,13 @@ pub struct Kept {
 
 impl Model for Kept {
     ghost use Rattle.std.specs.Prelude.{◌-◌, min, vec_len, vec_capacity};
-    ghost use Rattle.smf_core.specs.Caches.{KeptAs, IsKept, all_layers, full};
+    ghost use Rattle.smf_core.specs.Caches.{KeptAs, IsKept, full};
 
     ghost Value = { KeptAs };
 
-    ghost view = { λ k. record { session = full k.session k.holdings.items (all_layers k.rules.items); room = min (vec_capacity k.holdings - vec_len k.holdings) (min (vec_capacity k.containers - vec_len k.containers) (vec_capacity k.rules - vec_len k.rules)) } };
+    ghost view = { λ k. record { session = full k.session k.holdings.items; room = min (vec_capacity k.holdings - vec_len k.holdings) (vec_capacity k.containers - vec_len k.containers) } };
 
-    ghost invariant = { λ k. IsKept k.session k.holdings.items (all_layers k.rules.items) k.places k.containers.items k.held };
+    ghost invariant = { λ k. IsKept k.session k.holdings.items k.places k.containers.items k.held };
 }
 
 // Others written at places, one after another; the one that is left comes at the end.
@@ -72,28 +71,16 @@ fn places_of(alloc: Global, all: &[Holding]) -> Result<List<usize>, OutOfMemory>
     Ok(places)
 }
 
-// Takes the trigger rules that a change adds, and what all of them say.
-fn add_rules(all: &mut Vec<List<Layer>>, said: &mut List<Layer>, change: Option<RuleChange>)
-    requires { vec_len all.old < vec_capacity all.old }
-    ensures all { all_layers all.new.items ≡ rules_with (all_layers all.old.items) change }
-    ensures said { said.new ≡ said_after change said.old }
-{
-    if let Some(change) = change {
-        let RuleChange { added, said: now } = change;
-        all.push_reserved(added);
-        *said = now;
-    }
-}
-
 // A session as a change leaves what events look at.
 fn settle_in(
     session: &mut Session,
     course: Course,
     groups: List<Entry>,
     live: List<Holding>,
+    rules: Option<List<Rule>>,
     pending: Pending,
 )
-    ensures { session.new ≡ after_change session.old course groups live pending }
+    ensures { session.new ≡ after_change session.old course groups live rules pending }
 {
     session.reference = course.reference;
     session.life = course.life;
@@ -105,6 +92,9 @@ fn settle_in(
     session.handling = course.handling;
     session.groups = groups;
     session.holdings = live;
+    if let Some(rules) = rules {
+        session.rules = rules;
+    }
     let request = mem::replace(&mut session.request, None);
     session.request = request_left(request, pending);
 }
@@ -119,13 +109,10 @@ impl Kept {
         let places = places_of(alloc, session.holdings.as_slice())?;
         let containers = containers_from(alloc, session.holdings.as_slice())?;
         let held = containers_from(alloc, &live)?;
-        let mut rules = Vec::new(alloc);
-        rules.push(copy(&session.rules)?)?;
         let holdings = mem::replace(&mut session.holdings, List::from_vec(live));
         Ok(Kept {
             session,
             holdings: holdings.into_vec(),
-            rules,
             places,
             containers,
             held: List::from_vec(held),
@@ -168,7 +155,6 @@ impl Kept {
     {
         self.holdings.reserve(1)?;
         self.containers.reserve(1)?;
-        self.rules.reserve(1)?;
         let places = self.places.as_slice();
         change_of(
             alloc,
@@ -206,8 +192,7 @@ impl Kept {
         );
         self.places = places;
         self.held = held;
-        add_rules(&mut self.rules, &mut self.session.rules, rules);
-        settle_in(&mut self.session, course, groups, live, pending);
+        settle_in(&mut self.session, course, groups, live, rules, pending);
     }
 
     /// Its unanswered request, `None` exactly where there is none.

@@ -1,15 +1,8 @@
 //! A plan: what an event makes of the machine, with all the memory that it takes.
 use crate::draft::{Course, Pending};
 use crate::kept::Kept;
-use smf_model::{Entry, Holding, Layer, Seen};
+use smf_model::{Entry, Holding, Rule, Seen};
 use units::{Container, List, Moment};
-
-/// The trigger rules that an answer adds to a session, and all that its rules say then.
-#[derive(Debug, Drop)]
-pub struct RuleChange {
-    pub added: List<Layer>,
-    pub said: List<Layer>,
-}
 
 /// What an event makes of one session: what it changes, and what is kept of that for speed.
 #[derive(Debug, Drop)]
@@ -26,7 +19,8 @@ pub struct Change {
     pub places: List<usize>,
     /// Its containers.
     pub held: List<Container>,
-    pub rules: Option<RuleChange>,
+    /// The trigger rules, where they are not as before.
+    pub rules: Option<List<Rule>>,
     pub pending: Pending,
 }
 

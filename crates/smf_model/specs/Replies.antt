@@ -1,5 +1,5 @@
 -- Replies to the unanswered request: which are final, and what they make of the session (TS 32.290, 5.3.2 and quota management; TS 32.291, 6.1.7).
-use Rattle.std.specs.Prelude.{ℕ, ◌==◌, ◌&&◌, ◌||◌, Bool, true, false, if◌then◌else◌, Option, Some, None, is_some, unwrap_or, List, [], ◌∷◌, ◌++◌, map, bytes_eq}
+use Rattle.std.specs.Prelude.{ℕ, ◌==◌, ◌&&◌, ◌||◌, Bool, true, false, if◌then◌else◌, Option, Some, None, is_some, unwrap_or, List, map, fold, bytes_eq}
 use Rattle.std.specs.List.{find}
 use Rattle.units.specs.declared.request.Operation.{Operation}
 use Rattle.units.specs.declared.request.Operation.TheVariants.{Create, Update, Release}
@@ -18,9 +18,9 @@ use Rattle.smf_model.specs.declared.session.Why.TheVariants.{Refused as WasRefus
 use Rattle.smf_model.specs.declared.session.Place.TheVariants.{Answered}
 use Rattle.smf_model.specs.declared.session.Holding.{Holding}
 use Rattle.smf_model.specs.declared.session.Entry.{Entry}
-use Rattle.smf_model.specs.declared.session.Layer.{Layer}
+use Rattle.smf_model.specs.declared.session.Rule.{Rule}
 use Rattle.smf_model.specs.declared.session.Session.{Session}
-use Rattle.smf_model.specs.Rules.{or_earlier}
+use Rattle.smf_model.specs.Rules.{or_earlier, with_rules}
 use Rattle.smf_model.specs.Settle.{is_frozen}
 use Rattle.smf_model.specs.Traffic.{ended, ended_for}
 
@@ -71,19 +71,18 @@ horizon_after stamp (Some info) horizon = if is_some info.grant then Some (recor
 abbrev pub answer_entry : ℕ → List UnitInfo → Entry → Entry
 answer_entry stamp units e = record e { quota = answered stamp (info_of e.number units) e.quota; horizon = horizon_after stamp (info_of e.number units) e.horizon }
 
--- the trigger rules of an answer: for the session, and for each of its rating groups
-abbrev pub group_layer : ℕ → Option UnitInfo → List Layer
-group_layer group None = []
-group_layer group (Some info) = record { group = Some group; rules = info.triggers } ∷ []
+-- the trigger rules with those of an answer for a rating group, where it has an entry of it
+abbrev pub with_info_rules : ℕ → Option UnitInfo → List Rule → List Rule
+with_info_rules group None rules = rules
+with_info_rules group (Some info) rules = with_rules (Some group) info.triggers rules
 
--- those for the rating groups of the session
-abbrev pub group_layers : List UnitInfo → List Entry → List Layer
-group_layers units [] = []
-group_layers units (e ∷ entries) = group_layer e.number (info_of e.number units) ++ group_layers units entries
+-- with those for each rating group of the session
+abbrev pub with_group_rules : List UnitInfo → List Rule → Entry → List Rule
+with_group_rules units rules e = with_info_rules e.number (info_of e.number units) rules
 
--- all of them
-abbrev pub layers_of : Answer → List Entry → List Layer
-layers_of answer entries = record { group = None; rules = answer.triggers } ∷ group_layers answer.units entries
+-- with all of them: for the session, and for each of its rating groups
+abbrev pub rules_after : Answer → List Entry → List Rule → List Rule
+rules_after answer entries rules = fold (with_group_rules answer.units) (with_rules None answer.triggers rules) entries
 
 -- a success with an answer sets the rating groups, and adopts what it gives of failover, failure handling and trigger rules
 abbrev pub succeeded : ℕ → Option ℕ → Answer → Session → Session
@@ -94,7 +93,7 @@ succeeded stamp reference answer s = record s {
   handling = unwrap_or answer.handling s.handling;
   holdings = map answer_holding s.holdings;
   groups = map (answer_entry stamp answer.units) s.groups;
-  rules = s.rules ++ layers_of answer s.groups;
+  rules = rules_after answer s.groups s.rules;
 }
 
 -- a released session has ended, with nothing of the request held

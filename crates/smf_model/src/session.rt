@@ -2,7 +2,7 @@
 use crate::setup::SmfSetup;
 use meter::Horizon;
 use quotas::Group;
-use units::{Container, Handling, List, Moment, Plain, Request, Text, TriggerRule, TriggerType};
+use units::{Container, Handling, List, Moment, Request, Text, TriggerRule, TriggerType};
 
 /// How far a session is (TS 32.290, 5.3.2).
 #[derive(Clone, Copy, PartialEq, Eq, Debug)]
@@ -61,25 +61,16 @@ pub struct Entry {
     pub horizon: Option<Horizon>,
 }
 
-/// The trigger rules of one list of an answer: for the session, or for one rating group (TS 32.291, 6.1.6.2.1.7).
-#[derive(Clone, PartialEq, Eq, Debug, Drop)]
-pub struct Layer {
+/// The trigger rule of one type, for the session or for one rating group: its category, and of its limits the latest that a rule of
+/// that type gave (TS 32.291, 6.1.6.2.1.7).
+#[derive(Clone, Copy, PartialEq, Eq, Debug)]
+pub struct Rule {
     pub group: Option<u32>,
-    pub rules: List<TriggerRule>,
+    pub rule: TriggerRule,
 }
 
-impl Plain for Layer {
-    ghost use Rattle.std.proofs.Common.{rules};
-    ghost use Rattle.std.specs.Cmp.Lexicographic.{pointwise_decides};
-    ghost use Rattle.units.specs.contracts.trigger.TriggerRulePlain.TheImpl.Laws as rule;
-
-    ghost copies = { Prim.search rules };
-
-    ghost decides = { λ a b. let same = pointwise_decides rule.decides-law a.rules b.rules in Prim.search rules };
-}
-
-/// A charging session as it is now. Its groups ascend, its containers are in order of their numbers, and its rules are in the order
-/// in which answers set them.
+/// A charging session as it is now. Its groups ascend, its containers are in order of their numbers, and of its rules those of the
+/// session come first, then those of each group, in the order of their types.
 #[derive(Debug, Drop)]
 pub struct Session {
     pub number: u32,
@@ -94,7 +85,7 @@ pub struct Session {
     pub handling: Handling,
     pub groups: List<Entry>,
     pub holdings: List<Holding>,
-    pub rules: List<Layer>,
+    pub rules: List<Rule>,
     pub request: Option<Request>,
 }
 

@@ -1,8 +1,0 @@
-use Rattle.std.proofs.Common.{◌≡◌, drop, fold}
-use Rattle.std.specs.Prelude.{None, option_and_then}
-use Rattle.units.specs.declared.trigger.TriggerType.TheVariants.{MaxNumberOfChangesInChargingConditions}
-use Rattle.smf_model.specs.Rules.{rule_for, or_earlier}
-use Rattle.smf_core.proofs.rules.changes.Given as goal
-
-abbrev pub invariant-loop-layer : goal.invariant-loop-layer
-invariant-loop-layer l = fold (λ earlier layer. or_earlier (option_and_then (λ r. r.changes) (rule_for None MaxNumberOfChangesInChargingConditions layer)) earlier) l.found (drop l.layer-index l.layers) ≡ fold (λ earlier layer. or_earlier (option_and_then (λ r. r.changes) (rule_for None MaxNumberOfChangesInChargingConditions layer)) earlier) None l.layers
