@@ -6,7 +6,7 @@ use units::TriggerType;
 
 /// The place of a type in their order.
 pub fn order_of(trigger: TriggerType) -> u64
-    ensures { result ≡ order_of trigger }
+    ensures order { result ≡ order_of trigger }
     ensures few { result < 32 }
 {
     match trigger {
