@@ -1,8 +1,13 @@
 pub mod Faults
 pub mod Connections
+pub mod Openings
 pub mod Memory
 pub mod Streams
 pub mod Reading
+pub mod Visits
+pub mod MemDoors
+pub mod MemLinks
+pub mod Clocks
 pub mod Disk
 pub mod Stored
 pub mod StoredImages

@@ -6,14 +6,21 @@
 //! takes a trait, a form in memory and an adapter, each in a file of its own.
 #![tactic(auto)]
 
+mod clock;
 mod disk;
 mod disk_script;
 mod disk_store;
+mod door;
 mod epoch_text;
 mod file_disk;
+mod link;
 mod memory_disk;
+mod memory_door;
+mod memory_link;
 mod memory_sink;
 mod memory_source;
+mod memory_streams;
+mod peer_name;
 mod reading;
 mod script;
 mod stream_sink;
@@ -21,9 +28,14 @@ mod stream_source;
 mod traits;
 mod writing;
 
+pub use clock::{Clock, StepClock};
 pub use disk::{Disk, DiskRefusal};
+pub use door::Door;
 pub use file_disk::FileDisk;
+pub use link::Link;
 pub use memory_disk::MemDisk;
+pub use memory_door::MemDoor;
+pub use memory_link::MemLink;
 pub use memory_sink::MemSink;
 pub use memory_source::MemSource;
 pub use reading::{ReadEnd, read_all};
