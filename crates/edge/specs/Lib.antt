@@ -8,6 +8,7 @@ pub mod Visits
 pub mod MemDoors
 pub mod MemLinks
 pub mod Clocks
+pub mod TcpConnections
 pub mod Disk
 pub mod Stored
 pub mod StoredImages
