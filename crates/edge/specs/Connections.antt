@@ -1,5 +1,5 @@
 -- What a device that tells says of its connections and openings (this product's own).
-use Rattle.std.specs.Prelude.{ℕ, Bool, true, false, ◌||◌, List, [], ◌∷◌, ◌++◌, length, take, drop, Option, Result, Ok, Err, None}
+use Rattle.std.specs.Prelude.{ℕ, ◌≡◌, Bool, true, false, ◌||◌, ⊤, List, [], ◌∷◌, ◌++◌, length, take, drop, Option, Result, Ok, Err, Some, None}
 
 -- one connection: to whom, the bytes read, left to read and written, and whether a read and whether a write on it failed
 pub record Connection : Type 0 where
@@ -46,3 +46,17 @@ abbrev pub after_write : List ℕ → Bool → List Connection → List Connecti
 after_write bytes failed [] = []
 after_write bytes failed (present ∷ earlier) =
     record present { written = present.written ++ bytes; write_failed = present.write_failed || failed } ∷ earlier
+
+-- the bytes of the present connection, the first of these, that are left to read, and those written
+abbrev pub left_of : List Connection → Option (List ℕ)
+left_of [] = None
+left_of (present ∷ earlier) = Some present.left
+
+abbrev pub written_of : List Connection → Option (List ℕ)
+written_of [] = None
+written_of (present ∷ earlier) = Some present.written
+
+-- where the connections are told, what is told of the present one is told of the first of them
+abbrev pub AgreesOnPresent : Option (List Connection) → Option (List ℕ) → Option (List ℕ) → Type 0
+AgreesOnPresent None left written = ⊤
+AgreesOnPresent (Some connections) left written = (left ≡ left_of connections) × (written ≡ written_of connections)

@@ -1,8 +1,14 @@
 pub mod Faults
 pub mod Connections
+pub mod Openings
 pub mod Memory
 pub mod Streams
 pub mod Reading
+pub mod Visits
+pub mod MemDoors
+pub mod MemLinks
+pub mod Clocks
+pub mod TcpConnections
 pub mod Disk
 pub mod Stored
 pub mod StoredImages

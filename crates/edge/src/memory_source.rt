@@ -58,6 +58,8 @@ impl Stream for MemSource {
     ghost connections = { λ _. None };
 
     ghost openings = { λ _. untold };
+
+    ghost present = { λ _. tt };
 }
 
 impl Source for MemSource {
@@ -80,8 +82,8 @@ impl Source for MemSource {
     }
 }
 
-// Copies as many bytes as there are in both.
-fn copy_front(from: &[u8], into: &mut [u8]) -> usize
+/// Copies as many bytes as there are in both.
+pub fn copy_front(from: &[u8], into: &mut [u8]) -> usize
     ensures count { result ≡ min (length from.now) (length into.old) }
     ensures bytes { take result into.new ≡ take result from.now }
 {
