@@ -1,6 +1,6 @@
 //! Elements of X.690: octets read and written again, lengths, and a grammar.
 use crate::values::{hexadecimal, octets, small};
-use ber::{BerRefusal, Grammar, Step, Tag, primitive, read, read_tlv, write_tlv};
+use ber::{BerRefusal, Grammar, Step, Tag, Tape, primitive, read, read_tlv, write_tlv};
 use std::alloc::Global;
 use units::{List, OutOfMemory};
 
@@ -86,11 +86,10 @@ impl Grammar for NumberOnce {
 
 /// How many octets are read under that grammar, or the octet of the first fault.
 pub fn once(alloc: Global, word: &str) -> Result<String, OutOfMemory> {
-    match read(
-        alloc,
-        NumberOnce { seen: false },
-        octets(alloc, word)?.as_slice(),
-    ) {
+    let octets = octets(alloc, word)?;
+    let mut tape = Tape::new(alloc);
+    let grammar = NumberOnce { seen: false };
+    match read(&mut tape, grammar, octets.as_slice()) {
         Ok((_, taken)) => Ok(format!(in alloc; "{taken}")?),
         Err(refusal) => refused(alloc, &refusal),
     }

@@ -1,5 +1,5 @@
 //! Turns of BER elements read, beside passes over the same octets.
-use ber::{Anything, read};
+use ber::{Anything, Tape, read};
 use std::alloc::{AllocError, Global};
 
 // A charging record of one container: 139 octets.
@@ -27,12 +27,13 @@ fn records(alloc: Global, count: u64) -> Result<Vec<u8>, AllocError> {
 /// Reads that many records, whose contents stay where they are, and counts their octets.
 pub fn read_records(alloc: Global, count: u64) -> Result<u64, AllocError> {
     let bytes = records(alloc, count)?;
+    let mut tape = Tape::new(alloc);
     let mut at = 0usize;
     for _ in 0..count {
         let Some(rest) = bytes.get(at..) else {
             return Ok(0);
         };
-        match read(alloc, Anything, rest) {
+        match read(&mut tape, Anything, rest) {
             Ok((_, length)) => at = at.saturating_add(length),
             Err(_) => return Ok(0),
         }

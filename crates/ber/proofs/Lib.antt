@@ -5,4 +5,4 @@ pub mod Spelled
 pub mod Front
 pub mod Bounds
 pub mod Shortest
-pub mod Seen
+pub mod Nodes

@@ -3,8 +3,9 @@ use Rattle.std.proofs.Common.{◌≡◌, ℕ, suc, ◌+◌, ◌-◌, ◌<◌, �
 use Rattle.std.specs.Prelude.{take, drop, nat_lt}
 use Rattle.std.proofs.lemmas.Bool.{le-ltb}
 use Rattle.ber.specs.declared.tag.Tag.{Tag}
-use Rattle.ber.specs.Octets.{length_at}
-use Rattle.ber.specs.Element.{Element, Elements, none, more, element, elements, element_of, row_of, constructed}
+use Rattle.ber.specs.Octets.{tag_at, length_at}
+use Rattle.ber.specs.declared.grammar.Step.TheVariants as steps
+use Rattle.ber.specs.Element.{Element, Elements, none, more, joined, element, elements, element_of, row_of, primitive, constructed}
 use Rattle.ber.specs.Grammar.{Rules}
 use Rattle.ber.specs.Reading.{Inside, ◌>>=◌, after, end_at, closing, item_with, items_with, inside_at, contents_with, Fails}
 use Rattle.ber.specs.declared.tlv.Tlv.{Tlv}
@@ -13,10 +14,6 @@ use Rattle.std.specs.Option.{option_map}
 use Rattle.ber.specs.declared.refusal.BerRefusal.{BerRefusal}
 use Rattle.ber.specs.declared.refusal.BerRefusal.TheVariants as refusal
 use Rattle.ber.specs.declared.tlv.Body.{Constructed, Row_of-Tlv, end_of-Tlv, more_of-Tlv, items-the_row-Tlv, items_hidden-the_row-Tlv-0}
-
-abbrev pub joined : Elements → Elements → Elements
-joined none es = es
-joined (more e es) fs = more e (joined es fs)
 
 -- what was read before, and what is still read
 abbrev pub with_front : Elements → Result (Elements × List ℕ) ℕ → Result (Elements × List ℕ) ℕ
@@ -142,3 +139,19 @@ pub definite_is : {S : Type 0} (r : Rules S) (levels : ℕ) (s : S) (tag : Tag) 
 definite_is r levels s tag at place n bytes body x some is within shape h =
     let long : nat_lt (length body) n ≡ false = le-ltb _ _ within in
     rw (inside_is r levels s tag at place bytes (Some n) body some is, long, shape, h) refl
+
+pub item_is : {S : Type 0} (r : Rules S) (inside : Inside S) (s outer inner : S) (around at : ℕ) (bytes behind rest : List ℕ) (tag : Tag) (e : Element) → tag_at bytes ≡ Some (tag, behind) → r.enter s tag ≡ steps.Into outer inner
+    → inside inner tag at (after at bytes behind) behind ≡ Ok (e, rest) → item_with r inside s around at bytes ≡ Ok (outer, e, rest)
+unfolding item_with
+item_is r inside s outer inner around at bytes behind rest tag e a b c = rw (a, b, c) refl
+
+pub indefinite_is : {S : Type 0} (r : Rules S) (levels : ℕ) (s : S) (tag : Tag) (at place : ℕ) (bytes body : List ℕ) (x : Elements × List ℕ) → 1 ≤ levels → length_at bytes ≡ Some (None, body) → tag.constructed ≡ true
+    → items_with r (inside_at r (levels - 1)) (length body + 1) false s at (after place bytes body) body ≡ Ok x
+    → inside_at r levels s tag at place bytes ≡ Ok (constructed tag.class tag.number x.0, x.1)
+indefinite_is r levels s tag at place bytes body x some is shape h = rw (inside_is r levels s tag at place bytes None body some is, shape, h) refl
+
+pub contents_is : {S : Type 0} (r : Rules S) (levels : ℕ) (s : S) (tag : Tag) (at place n : ℕ) (bytes body : List ℕ) → 1 ≤ levels → length_at bytes ≡ Some (Some n, body) → n ≤ length body → tag.constructed ≡ false
+    → r.takes s (take n body) ≡ true → inside_at r levels s tag at place bytes ≡ Ok (primitive tag.class tag.number (take n body), drop n body)
+contents_is r levels s tag at place n bytes body some is within shape taken =
+    let long : nat_lt (length body) n ≡ false = le-ltb _ _ within in
+    rw (inside_is r levels s tag at place bytes (Some n) body some is, long, shape, taken) refl

@@ -48,3 +48,13 @@ contents_of (constructed class number inner) = None
 abbrev pub inner_of : Element → Option Elements
 inner_of (primitive class number contents) = None
 inner_of (constructed class number inner) = Some inner
+
+-- The first of some elements, and those behind it (this product's own).
+abbrev pub first_of : Elements → Option (Element × Elements)
+first_of none = None
+first_of (more e es) = Some (e, es)
+
+-- Elements, and others behind them (this product's own).
+abbrev pub joined : Elements → Elements → Elements
+joined none es = es
+joined (more e es) fs = more e (joined es fs)

@@ -5,4 +5,4 @@ pub mod Grammar
 pub mod Octets
 pub mod Reading
 pub mod Anything
-pub mod Borrowed
+pub mod Tape

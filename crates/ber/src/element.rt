@@ -1,7 +1,7 @@
 //! Elements at the front of octets, under a grammar and under none.
 ghost use Rattle.std.specs.Prelude.{◌≡◌, ◌<◌, ◌≤◌, ◌^◌, ◌++◌, ℕ, List, length, take, Ok, IfOk};
-ghost use Rattle.ber.specs.Element.{Element, element};
-ghost use Rattle.ber.specs.Borrowed.{seen};
+ghost use Rattle.ber.specs.Element.{Element, element, more, none};
+ghost use Rattle.ber.specs.Tape.{Lays, nodes_seen, seen};
 ghost use Rattle.ber.specs.Spelling.{Spells};
 ghost use Rattle.ber.specs.Grammar.{Admits};
 ghost use Rattle.ber.specs.Anything.{first_element};
@@ -12,31 +12,49 @@ use crate::anything::Anything;
 use crate::grammar::Grammar;
 use crate::reading::item;
 use crate::refusal::BerRefusal;
+use crate::tape::Tape;
 use crate::tlv::Tlv;
-use crate::tlv_ref::TlvRef;
+use crate::tlv_ref::{Row, TlvRef};
 use std::alloc::Global;
 
-// The element at the front, and that memory holds the octets.
+// The element at the front, alone on the tape, how many octets it takes, and that memory holds the octets.
 #[tactic(auto, unfolding(crate::specs::Reading::element_at))]
 fn front<'a, G: Grammar>(
-    alloc: Global,
+    tape: &mut Tape<'a>,
     grammar: G,
     bytes: &'a [u8],
-) -> Result<(TlvRef<'a>, usize), BerRefusal>
+) -> Result<usize, BerRefusal>
+    ensures exact { Lays (λ n e. (e, n)) (λ e. nodes_seen tape.new.nodes.items ≡ more e none) result (element_at G.rules grammar bytes.now) }
+    ensures bound { length bytes.now < 2 ^ 63 }
+{
+    tape.nodes.clear();
+    let (_, rest) = item(&mut tape.nodes, 16, grammar, 0, 0, bytes)?;
+    Ok(bytes.len() - rest.len())
+}
+
+// The element at the front as it is seen, and that memory holds the octets.
+fn first<'t, 'a, G: Grammar>(
+    tape: &'t mut Tape<'a>,
+    grammar: G,
+    bytes: &'a [u8],
+) -> Result<(TlvRef<'t, 'a>, usize), BerRefusal>
     ensures exact { Gives (λ x. (seen x.0, x.1)) result (element_at G.rules grammar bytes.now) }
     ensures bound { length bytes.now < 2 ^ 63 }
 {
-    let (_, tlv, rest) = item(alloc, 16, grammar, 0, 0, bytes)?;
-    Ok((tlv, bytes.len() - rest.len()))
+    let count = front(tape, grammar, bytes)?;
+    match Row::of(&tape.nodes).split_first() {
+        Some((tlv, _)) => Ok((tlv, count)),
+        None => unreachable!(),
+    }
 }
 
 /// The element at the front of the octets that a grammar admits, and how many octets it takes, whatever follows; at most 16 elements within each other
 /// (X.690 8.1). Else the first octet of the element that has the fault that is met first in reading from the left. No contents are copied.
-pub fn read<'a, G: Grammar>(
-    alloc: Global,
+pub fn read<'t, 'a, G: Grammar>(
+    tape: &'t mut Tape<'a>,
     grammar: G,
     bytes: &'a [u8],
-) -> Result<(TlvRef<'a>, usize), BerRefusal>
+) -> Result<(TlvRef<'t, 'a>, usize), BerRefusal>
     // The octet of the first fault, and what is read.
     ensures exact { Gives (λ x. (seen x.0, x.1)) result (element_at G.rules grammar bytes.now) }
     // What is read is spelled so, and the grammar admits it.
@@ -46,7 +64,7 @@ pub fn read<'a, G: Grammar>(
     // What is read can be written and read again.
     ensures bounded { IfOk result (λ x. IsBounded 16 (seen x.0)) }
 {
-    front(alloc, grammar, bytes)
+    first(tape, grammar, bytes)
 }
 
 // The element at the front, with octets of its own, and that memory holds the octets.
@@ -54,7 +72,8 @@ fn front_tlv(alloc: Global, bytes: &[u8]) -> Result<(Tlv, usize), BerRefusal>
     ensures exact { Gives (λ x. (element x.0, x.1)) result (first_element bytes.now) }
     ensures bound { length bytes.now < 2 ^ 63 }
 {
-    let (tlv, count) = front(alloc, Anything, bytes)?;
+    let mut tape = Tape::new(alloc);
+    let (tlv, count) = first(&mut tape, Anything, bytes)?;
     Ok((tlv.to_tlv(alloc)?, count))
 }
 

@@ -6,9 +6,14 @@
 //! positions, and nothing of records: a reader of those is this one under its grammar, and then a function of the
 //! tree.
 //!
+//! How it is built: what is read stands on a `Tape`, one list of nodes in order of their first octets, each with how
+//! many nodes behind it are within it; so reading takes memory only where the tape must grow. A `TlvRef` and a `Row`
+//! are views of a tape, and contracts see them as the elements that they are (`specs/Tape`).
+//!
 //! Where a rule goes: on identifier and length octets into `specs/Spelling` (what is meant), `specs/Octets` (how it
 //! is read) and `identifier` or `length`; on positions into `specs/Reading` and `reading`, which alone knows them;
-//! on the written form into `specs/Written` and `writing`; on which element may stand where into the grammar above.
+//! on where what is read stands into `specs/Tape`, `node` and `tlv_ref`; on the written form into `specs/Written` and
+//! `writing`; on which element may stand where into the grammar above.
 #![tactic(auto)]
 
 mod anything;
@@ -16,9 +21,11 @@ mod element;
 mod grammar;
 mod identifier;
 mod length;
+mod node;
 mod reading;
 mod refusal;
 mod tag;
+mod tape;
 mod tlv;
 mod tlv_ref;
 mod writing;
@@ -29,6 +36,7 @@ pub use grammar::{Grammar, Step};
 pub use length::value;
 pub use refusal::BerRefusal;
 pub use tag::Tag;
+pub use tape::Tape;
 pub use tlv::{Body, Tlv, constructed, primitive};
-pub use tlv_ref::{BodyRef, TlvRef};
+pub use tlv_ref::{BodyRef, Row, TlvRef};
 pub use writing::write_tlv;

@@ -1,6 +1,6 @@
 //! What holds of all lists on a disk: how calls of a journal come together to those of a node.
 ghost use Rattle.std.specs.Prelude.{◌+◌, ◌++◌, ⊤, List, ℕ, length};
-ghost use Rattle.journal.specs.Laws.{OneList};
+ghost use Rattle.journal.specs.Laws.{NoPlace, OneList, OnePlace};
 ghost use Rattle.journal.specs.Lists.{EachBeginsWith, EachStandsFor, Extends};
 
 use edge::Disk;
@@ -8,6 +8,13 @@ use edge::Disk;
 /// A law of the lists on a disk; it does nothing. Bytes stand for one list at most (this product's own).
 pub fn bytes_stand_for_one_list()
     ensures { OneList }
+{}
+
+/// A law of bytes; it does nothing. Bytes that are no journal are none at one place alone, which a refusal names, and
+/// bytes that stand for a list at no place (this product's own).
+pub fn bytes_are_no_journal_at_one_place()
+    ensures one { OnePlace }
+    ensures none { NoPlace }
 {}
 
 /// Laws of appends; it does nothing. What several calls add is added in order, and where only the first entries were

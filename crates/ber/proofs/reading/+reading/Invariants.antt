@@ -1,7 +1,8 @@
 use Rattle.std.proofs.Common.{◌≡◌, ◌+◌, ◌-◌, ◌*◌, ◌≤◌, length}
-use Rattle.ber.specs.Borrowed.{all_seen}
 use Rattle.ber.specs.Reading.{items_with, inside_at}
 use Rattle.ber.proofs.Turns.{with_front}
+use Rattle.ber.specs.Element.{Elements}
+use Rattle.ber.specs.Tape.{Adds}
 use Rattle.ber.proofs.reading.+reading.Given as goal
 
 abbrev pub decreases-inside : goal.decreases-inside
@@ -15,8 +16,9 @@ decreases-items g l = 4 * l.levels + 2
 
 abbrev pub invariant-items-loop : goal.invariant-items-loop
 invariant-items-loop g l = record {
-  read : with_front (all_seen l.found.items) (items_with g.G.Grammar.rules (inside_at g.G.Grammar.rules l.levels) (l.end - l.counter) l.definite l.state l.around l.at l.rest)
-      ≡ items_with g.G.Grammar.rules (inside_at g.G.Grammar.rules l.levels) (length l.bytes + 1) l.definite l.initial.state l.around l.place l.bytes;
+  read : (front : Elements) × Adds l.initial.out.items l.out.items front
+      × (with_front front (items_with g.G.Grammar.rules (inside_at g.G.Grammar.rules l.levels) (l.end - l.counter) l.definite l.state l.around l.at l.rest)
+      ≡ items_with g.G.Grammar.rules (inside_at g.G.Grammar.rules l.levels) (length l.bytes + 1) l.definite l.initial.state l.around l.place l.bytes);
   turns : l.end ≡ length l.bytes + 1;
   within : length l.rest ≤ length l.bytes;
   place : l.at + length l.rest ≤ l.place + length l.bytes;
