@@ -8,8 +8,8 @@ ghost use Rattle.smf_model.specs.Replies.{is_named, is_bad_request, is_final_ref
 use crate::draft::{Draft, Pending, request_of, rules_of};
 use crate::ending::{end, end_for};
 use crate::freeze::is_frozen_place;
-use meter::Horizon;
 use crate::rules::with_rules;
+use meter::Horizon;
 use smf_model::{Entry, Holding, Place, Rule, Session, Why};
 use std::alloc::Global;
 use units::{

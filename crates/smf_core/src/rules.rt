@@ -3,7 +3,7 @@ ghost use Rattle.std.specs.Prelude.{◌≡◌, nat_lt, IfOk, filter, option_map}
 ghost use Rattle.std.specs.List.{list_any};
 ghost use Rattle.smf_core.specs.Draft.{whole};
 ghost use Rattle.smf_model.specs.Categories.{same_type};
-ghost use Rattle.smf_model.specs.Rules.{rank, rank_of, rule_at, or_earlier, after_earlier, with_rule, with_first, firsts, with_rules, category_in, volume_in, seconds_in, changes_in, is_immediate, is_immediate_for, limits_of, within, changes_of};
+ghost use Rattle.smf_model.specs.Rules.{rank, rank_of, rule_in, rule_at, after_earlier, placed, with_rule, with_first, firsts, with_rules, category_in, volume_in, seconds_in, changes_in, is_immediate, is_immediate_for, limits_of, within, changes_of};
 
 use crate::categories::{immediate_by_default, is_same, order_of};
 use crate::draft::{Draft, rules_of};
@@ -27,17 +27,22 @@ fn rank_of(rule: &Rule) -> u64
     rank(rule.group, rule.rule.trigger)
 }
 
-// The rule of a type, for a rating group or for the session.
-fn rule_at(group: Option<u32>, trigger: TriggerType, rules: &[Rule]) -> Option<TriggerRule>
-    ensures { result ≡ rule_at group trigger rules.now }
+fn rule_in(place: u64, rules: &[Rule]) -> Option<TriggerRule>
+    ensures { result ≡ rule_in place rules.now }
 {
-    let place = rank(group, trigger);
     for rule in rules {
         if rank_of(rule) == place {
             return Some(rule.rule);
         }
     }
     None
+}
+
+// The rule of a type, for a rating group or for the session.
+fn rule_at(group: Option<u32>, trigger: TriggerType, rules: &[Rule]) -> Option<TriggerRule>
+    ensures { result ≡ rule_at group trigger rules.now }
+{
+    rule_in(rank(group, trigger), rules)
 }
 
 fn after_earlier(rule: TriggerRule, earlier: Option<TriggerRule>) -> TriggerRule
@@ -77,6 +82,17 @@ fn above(alloc: Global, place: u64, rules: &[Rule]) -> Result<Vec<Rule>, OutOfMe
     Ok(found)
 }
 
+// The rules with this one at a place.
+fn placed(alloc: Global, place: u64, rule: Rule, rules: &[Rule]) -> Result<Vec<Rule>, OutOfMemory>
+    ensures { IfOk result (λ v. v.items ≡ placed place rule rules.now) }
+{
+    let mut next = below(alloc, place, rules)?;
+    let rest = above(alloc, place, rules)?;
+    next.push(rule)?;
+    next.extend_from_slice(&rest)?;
+    Ok(next)
+}
+
 // The rules with one more, at its place.
 fn with_rule(
     alloc: Global,
@@ -87,15 +103,8 @@ fn with_rule(
     ensures { IfOk result (λ v. v.items ≡ with_rule group rules.now rule) }
 {
     let place = rank(group, rule.trigger);
-    let earlier = rule_at(group, rule.trigger, rules);
-    let mut next = below(alloc, place, rules)?;
-    let rest = above(alloc, place, rules)?;
-    next.push(Rule {
-        group,
-        rule: after_earlier(rule, earlier),
-    })?;
-    next.extend_from_slice(&rest)?;
-    Ok(next)
+    let rule = after_earlier(rule, rule_at(group, rule.trigger, rules));
+    placed(alloc, place, Rule { group, rule }, rules)
 }
 
 fn is_found(trigger: TriggerType, found: &[TriggerRule]) -> bool

@@ -25,9 +25,13 @@ abbrev pub in_rule : Option Rule → Option TriggerRule
 in_rule None = None
 in_rule (Some r) = Some r.rule
 
+-- the rule at a place
+abbrev pub rule_in : ℕ → List Rule → Option TriggerRule
+rule_in place rules = in_rule (find (λ r. rank_of r == place) rules)
+
 -- the rule of a type, for a rating group, or for the session where the group is None
 abbrev pub rule_at : Option ℕ → TriggerType → List Rule → Option TriggerRule
-rule_at group trigger rules = in_rule (find (λ r. rank_of r == rank group trigger) rules)
+rule_at group trigger rules = rule_in (rank group trigger) rules
 
 -- the later one, where there is one
 abbrev pub or_earlier : {A : Type 0} → Option A → Option A → Option A
@@ -45,11 +49,13 @@ after_earlier r (Some e) = record {
   changes = or_earlier r.changes e.changes;
 }
 
+-- the rules with this one at a place
+abbrev pub placed : ℕ → Rule → List Rule → List Rule
+placed place r rules = filter (λ x. nat_lt (rank_of x) place) rules ++ r ∷ filter (λ x. nat_lt place (rank_of x)) rules
+
 -- the rules with one more, at its place
 abbrev pub with_rule : Option ℕ → List Rule → TriggerRule → List Rule
-with_rule group rules r =
-    filter (λ x. nat_lt (rank_of x) (rank group r.trigger)) rules
-    ++ record { group = group; rule = after_earlier r (rule_at group r.trigger rules) } ∷ filter (λ x. nat_lt (rank group r.trigger) (rank_of x)) rules
+with_rule group rules r = placed (rank group r.trigger) (record { group = group; rule = after_earlier r (rule_at group r.trigger rules) }) rules
 
 -- those of one list that count, with one more of that list: of several of one type the first
 abbrev pub with_first : List TriggerRule → TriggerRule → List TriggerRule

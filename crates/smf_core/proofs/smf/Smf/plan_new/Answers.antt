@@ -21,5 +21,5 @@ returns-clause-added c =
     let room : 0 < min (s.sessions.cap - s.sessions.len) s.index.room = subst (λ (x : Shown). 0 < x.room) (sym c.self.view_is) c.requires.room in
     let new = ap (λ (x : Shown). answer_of x.machine c.args.event.now) c.self.view_is ∙ c.requires.new in
     subst (λ ss. AddedIsReady c.in_ok-added.added ss (min (s.sessions.cap - s.sessions.len) s.index.room)) (sym (ap sessions_of kept ∙ same))
-        (added_ready c.args.event.now c.in_ok-added.added (record { setup = s.setup; moment = s.moment; sessions = sessions_of s.sessions.items }) (min (s.sessions.cap - s.sessions.len) s.index.room)
-        (c.in_ok-added.ensures ∙ ap (λ n. added_by s.setup n c.args.event.now) c.moment_after-now.ensures) new room)
+    (added_ready c.args.event.now c.in_ok-added.added (record { setup = s.setup; moment = s.moment; sessions = sessions_of s.sessions.items }) (min (s.sessions.cap - s.sessions.len) s.index.room)
+    (c.in_ok-added.ensures ∙ ap (λ n. added_by s.setup n c.args.event.now) c.moment_after-now.ensures) new room)
