@@ -24,3 +24,10 @@ mod WithinGrants
 mod Bounded
 mod FirstReplies
 mod Suits
+mod JoinedParts
+mod JoinedMoney
+mod JoinedRequests
+mod Entered
+mod References
+mod SessionLists
+mod ByKept
