@@ -31,3 +31,4 @@ mod Entered
 mod References
 mod SessionLists
 mod ByKept
+pub mod Drafting

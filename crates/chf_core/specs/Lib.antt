@@ -28,3 +28,4 @@ pub mod Deciding
 pub mod After
 pub mod Joined
 pub mod Standing
+pub mod Drafts

@@ -10,7 +10,8 @@
 //! `specs/Caches`, tied to it key by key.
 //!
 //! The state that a list leaves is what later decisions and replies depend on, and nothing else (`specs/State`,
-//! `CommandMoves`, `Deciding`, `After`); the laws of `histories` join it to the list.
+//! `CommandMoves`, `Deciding`, `After`); the laws of `histories` join it to the list. `draft` works out once, as moves of
+//! money, what a request makes of the accounts.
 //!
 //! How it is built: `chf` has the public calls; `reads` look-ups; `verdict` the order of checks; `trial` and
 //! `reply` work the first reply out without a change to the accounts; `plan` makes all the memory; `commit` has one
@@ -26,6 +27,7 @@ mod chf;
 mod command;
 mod commit;
 mod decision;
+mod draft;
 mod effect;
 mod fits;
 mod give_back;
