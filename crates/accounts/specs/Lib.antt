@@ -13,3 +13,4 @@ pub mod Due
 pub mod Indexes
 pub mod Numbers
 pub mod Caches
+pub mod Making

@@ -7,16 +7,9 @@ use Rattle.accounts.specs.Endings.{Session, Until}
 use Rattle.accounts.specs.Reservations.{ReservationMap, at}
 use Rattle.accounts.specs.Endings.{without}
 use Rattle.accounts.specs.Ledger.{Numbers, State, nothing, numbers, free, from_own, from_free, uncovered}
-
--- the moves; a Reserved is one that was not refused
-pub data Move : Type 0 where
-  Added : Move
-  ToppedUp : (account amount : ℕ) → Move
-  Charged : (account session group lsn amount : ℕ) → Move
-  Reserved : (account session group amount : ℕ) (deadline : Option ℕ) → Move
-  Released : (session group : ℕ) → Move
-  ReleasedAll : (session : ℕ) → Move
-  Expired : (moment : ℕ) → Move
+-- the moves, as the code has them; a Reserved is one that was not refused
+pub use Rattle.accounts.specs.declared.moves.Move.{Move}
+pub use Rattle.accounts.specs.declared.moves.Move.TheVariants.{Added, ToppedUp, Charged, Reserved, Released, ReleasedAll, Expired}
 
 -- a top-up pays what is owed first
 abbrev pub topped_up : Numbers → ℕ → Numbers

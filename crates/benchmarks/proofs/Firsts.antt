@@ -3,7 +3,9 @@ use Rattle.std.proofs.Common.{◌∙◌, ◌≡◌, ℕ, ◌<◌, ◌==◌, Bool
 use Rattle.std.specs.FinMap.{get-empty}
 use Rattle.accounts.specs.declared.reservation.Key.{Key}
 use Rattle.accounts.specs.Ledger.{State, Contents, Numbers}
-use Rattle.accounts.specs.Moves.{Move, Added, ToppedUp, after, empty_state}
+use Rattle.accounts.specs.declared.moves.Move.{Move}
+use Rattle.accounts.specs.declared.moves.Move.TheVariants.{Added, ToppedUp}
+use Rattle.accounts.specs.Moves.{after, empty_state}
 use Rattle.accounts.specs.Steps.{AreOwned, OwnersStay, keeps_owners}
 use Rattle.benchmarks.specs.Books.{IsOnFirst}
 

@@ -7,7 +7,8 @@ use Rattle.accounts.specs.declared.reservation.Key.{Key as Pair}
 use Rattle.accounts.specs.declared.reservation.Reservation.{Reservation}
 use Rattle.accounts.specs.Reservations.{ReservationMap, at, key_cmp, keys_total}
 use Rattle.accounts.specs.Ledger.{State, Contents, Numbers, nothing, numbers, free, left, from_own, from_free, uncovered}
-use Rattle.accounts.specs.Moves.{after, debited, lessened, lessened_at, Charged, Reserved, Released}
+use Rattle.accounts.specs.declared.moves.Move.TheVariants.{Charged, Reserved, Released}
+use Rattle.accounts.specs.Moves.{after, debited, lessened, lessened_at}
 use Rattle.chf_core.specs.declared.target.Target.{Target}
 use Rattle.chf_core.specs.Admits.{Admits, OwnsAll}
 
@@ -35,7 +36,7 @@ owner_lessened m k q x n one h = by_case (map.get m k) one
     ]
 
 -- after a charge
-charged_sums : (n : Numbers) (amount lf fr : ℕ) → (debited n (min amount lf + min (amount - lf) fr) (amount - lf - fr)).taken + (debited n (min amount lf + min (amount - lf) fr) (amount - lf - fr)).owed ≡ n.taken + n.owed + amount
+pub charged_sums : (n : Numbers) (amount lf fr : ℕ) → (debited n (min amount lf + min (amount - lf) fr) (amount - lf - fr)).taken + (debited n (min amount lf + min (amount - lf) fr) (amount - lf - fr)).owed ≡ n.taken + n.owed + amount
 charged_sums n amount lf fr = omega arith
 
 pub charged_admits : (old new : Contents) (t : Target) (group lsn amount more others : ℕ) → new.state ≡ after (Charged t.account t.session group lsn amount) old.state → old.spare ≤ new.spare + 1

@@ -11,7 +11,8 @@ use Rattle.accounts.specs.declared.reservation.Key.{Key as Pair}
 use Rattle.accounts.specs.declared.reservation.Reservation.{Reservation}
 use Rattle.accounts.specs.Reservations.{ReservationMap, at, key_cmp, keys_total, keys_tied}
 use Rattle.accounts.specs.Ledger.{State}
-use Rattle.accounts.specs.Moves.{after, Released}
+use Rattle.accounts.specs.declared.moves.Move.TheVariants.{Released}
+use Rattle.accounts.specs.Moves.{after}
 use Rattle.chf_core.specs.declared.target.Target.{Target}
 use Rattle.chf_core.specs.declared.target.GroupAsk.{GroupAsk}
 use Rattle.chf_core.specs.Effect.{Rating, released, released_one, gives_back, mentions, first_ask, asking, asks_after, asks_of, with_grant, deadline_of}

@@ -64,7 +64,7 @@ none_under (TopUp i n x ∷ a) k e = none_under a k e
 none_under (Expire m ∷ a) k e = none_under a k e
 
 -- a fresh request's key has no place
-fresh_place : (a : List Command) (q : Request) (k : Key) (o : Outcome) → key_of a q ≡ Some k → decision a (Charge q) ≡ Fresh o → place_of a k ≡ None
+pub fresh_place : (a : List Command) (q : Request) (k : Key) (o : Outcome) → key_of a q ≡ Some k → decision a (Charge q) ≡ Fresh o → place_of a k ≡ None
 fresh_place a q k o w e = by_place (place_of a k) refl
   where
     by_place : (p : Option ℕ) → place_of a k ≡ p → place_of a k ≡ None
@@ -86,7 +86,7 @@ entered_first a q o d k = by_key (key_of a q) refl
       | false ↦ λ t. or_none (place_of a k)
     ] refl
 
-session_same : (j : Key) (n : Name) → same_session j.session n ≡ true → j.session ≡ n
+pub session_same : (j : Key) (n : Name) → same_session j.session n ≡ true → j.session ≡ n
 session_same j n e =
     let y = both (name_eq j.session.consumer n.consumer) (j.session.charging_id == n.charging_id) e in
     λ i. record { consumer = same_name j.session.consumer n.consumer y.0 i; charging_id = same_number j.session.charging_id n.charging_id y.1 i }

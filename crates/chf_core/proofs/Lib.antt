@@ -24,3 +24,11 @@ mod WithinGrants
 mod Bounded
 mod FirstReplies
 mod Suits
+mod JoinedParts
+mod JoinedMoney
+mod JoinedRequests
+mod Entered
+mod References
+mod SessionLists
+mod ByKept
+pub mod Drafting

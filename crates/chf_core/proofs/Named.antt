@@ -88,7 +88,7 @@ keeps_after Create q account ss = keeps_opened ss q account
 keeps_after (Update r) q account ss = keeps_written ss r q.number true (by_reference ss r) refl
 keeps_after (Release r) q account ss = keeps_written ss r q.number false (by_reference ss r) refl
 
-keeps_one : (c : Command) (a : List Command) → Keeps (sessions a) (sessions (c ∷ a))
+pub keeps_one : (c : Command) (a : List Command) → Keeps (sessions a) (sessions (c ∷ a))
 keeps_one (Setup p) a = keeps_same (sessions a)
 keeps_one (Charge q) a = keeps_after q.operation q (account_for a q.subscriber) (sessions a)
 keeps_one (Subscriber u n b) a = keeps_same (sessions a)
@@ -116,7 +116,7 @@ unfolding via
 has_name q None k e = absurd (cc)
 has_name q (Some n) k e = (n, refl)
 
-key_stays : (c : Command) (a : List Command) (q : Request) (k : Key) → key_of a q ≡ Some k → key_of (c ∷ a) q ≡ Some k
+pub key_stays : (c : Command) (a : List Command) (q : Request) (k : Key) → key_of a q ≡ Some k → key_of (c ∷ a) q ≡ Some k
 key_stays c a q k = by_op q.operation
   where
     at : (r : ℕ) → key_in q (session_at a r) ≡ Some k → key_in q (session_at (c ∷ a) r) ≡ Some k
@@ -180,7 +180,7 @@ pub record Found (a : List Command) (q : Request) (i : ℕ) : Type 0 where
   pub stands : place_of a k ≡ Some i
   pub same : is_repeat q (command_at a i) ≡ true
 
-found_again : (a : List Command) (q : Request) (i : ℕ) → Found a q i → decision a (Charge q) ≡ Kept i
+pub found_again : (a : List Command) (q : Request) (i : ℕ) → Found a q i → decision a (Charge q) ≡ Kept i
 found_again a q i f = ap (at_key a q) f.has ∙ ap (at_place a q (named_by q.operation a q)) f.stands ∙ ap (at_kept i (last_of (named_by q.operation a q))) f.same
 
 found_longer : (c : Command) (a : List Command) (q : Request) (i : ℕ) → Found a q i → Found (c ∷ a) q i

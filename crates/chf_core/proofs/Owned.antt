@@ -17,7 +17,8 @@ use Rattle.accounts.specs.declared.reservation.Reservation.{Reservation}
 use Rattle.accounts.specs.Reservations.{ReservationMap, at, key_cmp, keys_total}
 use Rattle.accounts.specs.Endings.{Ending, Session as OfSession, Until, ends, without, without_at}
 use Rattle.accounts.specs.Ledger.{State, free}
-use Rattle.accounts.specs.Moves.{after, lessened, lessened_at, Charged, Released}
+use Rattle.accounts.specs.declared.moves.Move.TheVariants.{Charged, Released}
+use Rattle.accounts.specs.Moves.{after, lessened, lessened_at}
 use Rattle.chf_core.specs.declared.session.Session.{Session}
 use Rattle.chf_core.specs.declared.target.Target.{Target}
 use Rattle.chf_core.specs.declared.target.GroupAsk.{GroupAsk}

@@ -22,3 +22,10 @@ pub mod MoneyLaws
 pub mod WithinGrant
 pub mod Bounds
 pub mod Verdicts
+pub mod State
+pub mod CommandMoves
+pub mod Deciding
+pub mod After
+pub mod Joined
+pub mod Standing
+pub mod Drafts

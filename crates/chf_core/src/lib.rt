@@ -9,6 +9,10 @@
 //! `Effect` (charges, give-backs, grants), `Money`, `Decisions`, `Outcomes`. What is kept beside the list is in
 //! `specs/Caches`, tied to it key by key.
 //!
+//! The state that a list leaves is what later decisions and replies depend on, and nothing else (`specs/State`,
+//! `CommandMoves`, `Deciding`, `After`); the laws of `histories` join it to the list. `draft` works out once, as moves of
+//! money, what a request makes of the accounts.
+//!
 //! How it is built: `chf` has the public calls; `reads` look-ups; `verdict` the order of checks; `trial` and
 //! `reply` work the first reply out without a change to the accounts; `plan` makes all the memory; `commit` has one
 //! function for each command; `effect`, `give_back`, `grants` and `asks` are what a request does to `Accounts`.
@@ -23,10 +27,13 @@ mod chf;
 mod command;
 mod commit;
 mod decision;
+mod draft;
 mod effect;
 mod fits;
 mod give_back;
 mod grants;
+mod histories;
+mod kept_request;
 mod key;
 mod key_table;
 mod laws;
@@ -47,6 +54,10 @@ mod verdict;
 pub use chf::Chf;
 pub use command::{Command, Outcome};
 pub use decision::{Decision, Plan, Verdict};
+pub use histories::{
+    histories_grow, references_stand, requests_are_answered, sessions_are_by_kept,
+    states_are_joined,
+};
 pub use laws::{
     ledger_is_whole, money_balances, numbers_are_used_once, repeats_get_first_replies,
     replies_stand, sums_are_bounded, use_within_grants_owes_nothing, verdicts_suit_commands,

@@ -1,5 +1,5 @@
 -- The content of a charging data request: all of it but the retransmission indicator (TS 32.290, 5.3.2).
-use Rattle.std.specs.Prelude.{nat_eq, ◌&&◌, Bool, true, false}
+use Rattle.std.specs.Prelude.{◌≡◌, ◌↔◌, nat_eq, ◌&&◌, Bool, true, false}
 use Rattle.std.specs.Option.{option_eq}
 use Rattle.std.specs.Cmp.Lexicographic.{pointwise}
 use Rattle.units.specs.declared.request.Operation.{Operation}
@@ -53,3 +53,7 @@ same_body a b =
 -- the same in all fields but the mark
 abbrev pub same_content : Request → Request → Bool
 same_content a b = same_name a b && same_body a b
+
+-- The test of contents tells of all requests whether they are the same but for the mark.
+abbrev pub ContentsAreTold : Type 0
+ContentsAreTold = (a b : Request) → (same_content a b ≡ true) ↔ (content a ≡ content b)

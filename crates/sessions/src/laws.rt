@@ -1,5 +1,12 @@
-//! What holds of all lists of kept requests.
+//! What holds of all requests, and of all lists of kept requests.
+ghost use Rattle.sessions.specs.Content.{ContentsAreTold};
 ghost use Rattle.sessions.specs.Kept.{FirstRepliesStand, NewRepliesAreFirst, TimesAddUp};
+
+/// A law of all requests; it does nothing. The test of contents tells whether two requests are the same but for the retransmission
+/// indicator (TS 32.290, 5.3.2).
+pub fn contents_are_told()
+    ensures { ContentsAreTold }
+{}
 
 /// A law of kept requests; it does nothing. The first reply under a number stands, whatever is kept later; it is the one that was kept
 /// with the first request of that number (TS 32.290, 5.3.2).

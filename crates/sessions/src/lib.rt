@@ -10,4 +10,4 @@ mod content;
 mod laws;
 
 pub use content::same_content;
-pub use laws::{first_replies_stand, kept_requests_add_up};
+pub use laws::{contents_are_told, first_replies_stand, kept_requests_add_up};

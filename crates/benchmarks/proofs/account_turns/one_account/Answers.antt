@@ -1,6 +1,7 @@
 use Rattle.std.proofs.Common.{◌^◌, ◌≡◌, ◌<◌, ℕ, refl, arith, length, length-set, sym, ◌∙◌, ap, rules, slice_set}
 use Rattle.accounts.specs.Ledger.{State, Numbers, Contents}
-use Rattle.accounts.specs.Moves.{Charged, Released, Reserved, ToppedUp, Added, empty_state, after}
+use Rattle.accounts.specs.declared.moves.Move.TheVariants.{Charged, Released, Reserved, ToppedUp, Added}
+use Rattle.accounts.specs.Moves.{empty_state, after}
 use Rattle.benchmarks.proofs.Firsts.{opened}
 use Rattle.benchmarks.proofs.account_turns.one_account.Goals as goal
 

@@ -1,0 +1,10 @@
+use Rattle.std.proofs.Common.{◌≡◌, ◌++◌, drop}
+use Rattle.chf_core.specs.CommandMoves.{releases}
+use Rattle.chf_core.specs.Drafts.{Holds}
+use Rattle.chf_core.proofs.draft.Draft.release_all.Given as goal
+
+abbrev pub invariant-loop-entry : goal.invariant-loop-entry
+invariant-loop-entry l = record {
+  moves : l.self.moves ++ releases l.t (drop l.entry-index l.usage) ≡ l.fn.self.moves ++ releases l.t l.usage;
+  holds : Holds l.fn.self l.accounts.state l.t → Holds l.self l.accounts.state l.t;
+}
