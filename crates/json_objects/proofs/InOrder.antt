@@ -94,6 +94,7 @@ ordered fields up = ordered_from fields no_members up (none_below fields)
 
 tokens_first : (name : List ℕ) (o : Option Data) (rest : List (List ℕ × Option Data)) (ts : List Token) → ((us : List Token) → fields_after us rest ++ end_object ∷ [] ≡ us ++ members_tokens (members_outline (in_order rest)))
     → fields_after (field_after ts name o) rest ++ end_object ∷ [] ≡ ts ++ members_tokens (members_outline (before name o (in_order rest)))
+unfolding tokens_of field_after
 tokens_first name None rest ts later = later ts
 tokens_first name (Some v) rest ts later =
     let more = members_tokens (members_outline (in_order rest)) in
@@ -104,6 +105,7 @@ tokens_ordered [] ts = refl
 tokens_ordered (f ∷ rest) ts = tokens_first f.0 f.1 rest ts (λ us. tokens_ordered rest us)
 
 pub object_tokens : (ts : List Token) (fields : List (List ℕ × Option Data)) → do_ascend fields ≡ true → fields_after (ts ++ begin_object ∷ []) fields ++ end_object ∷ [] ≡ ts ++ tokens_of (object_of fields)
+unfolding tokens_of
 object_tokens ts fields up =
     tokens_ordered fields (ts ++ begin_object ∷ []) ∙ append_assoc ts (begin_object ∷ []) (members_tokens (members_outline (in_order fields)))
     ∙ ap (λ ms. ts ++ begin_object ∷ members_tokens (members_outline ms)) (sym (ordered fields up))

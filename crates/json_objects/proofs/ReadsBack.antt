@@ -37,12 +37,14 @@ mutual
   members_shallow (member k d ms) = let h = shallow d in let l = members_shallow ms in omega (arith, h, l)
 
 pub text_is : (value : Data) (ts : List Token) → ts ≡ tokens_of value → print ts ≡ compact_text value
+unfolding tokens_of
 text_is value ts e = ap print e ∙ print-outline value
 
 abbrev value_in : Option (json.Json × List Token) → Option Data
 value_in found = option_and_then of_json (option_and_then (λ p. json.if_last p.0 p.1) found)
 
 pub reads_as : (value : Data) (ts : List Token) → tokens (print ts) ≡ ts → ts ≡ tokens_of value → CanBeRead max_depth value → read (print ts) ≡ Some value
+unfolding tokens_of
 reads_as value ts same e can =
     let few : tree.depth (outline value) ≤ max_depth = let h = shallow value in let k = can.deep in omega (arith, h, k) in
     ap (λ (t : List Token). value_in (json.value max_depth t)) (same ∙ e ∙ sym (append-nil (tokens_of value)))

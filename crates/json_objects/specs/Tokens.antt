@@ -8,11 +8,11 @@ use Rattle.serde_json.specs.Data.{Data}
 use Rattle.serde_json.specs.Written.{outline}
 
 -- the tokens of a value
-abbrev pub tokens_of : Data → List Token
+unfoldable pub tokens_of : Data → List Token
 tokens_of value = json_tokens (outline value)
 
 -- tokens, and then a field, where it has a value
-abbrev pub field_after : List Token → List ℕ → Option Data → List Token
+unfoldable pub field_after : List Token → List ℕ → Option Data → List Token
 field_after tokens name None = tokens
 field_after tokens name (Some value) = (tokens ++ key name ∷ []) ++ tokens_of value
 

@@ -15,7 +15,7 @@ use json::Writer;
 use moments::write_time;
 use std::alloc::AllocError;
 use std::marker::Model;
-use units::{List as Bytes, Moment};
+use units::{List as Bytes, Moment, Text};
 
 /// Writes JSON at the end of a buffer, token after token: compact, with no value of JSON between. Contracts see what the
 /// buffer had at first and the tokens after that.
@@ -90,7 +90,7 @@ impl ObjectWriter {
         self.out.end_object()
     }
 
-    /// The name of the next value.
+    /// The name of the next value, which has to follow.
     pub fn name(&mut self, name: &str) -> Result<(), AllocError>
         ensures ok { OnOk result (self.new.tokens ≡ self.old.tokens ++ key name.now ∷ []) }
         ensures before { self.new.before ≡ self.old.before }
@@ -116,6 +116,7 @@ impl ObjectWriter {
     }
 
     /// A number as a value under a name, where there is one.
+    #[tactic(auto, unfolding(crate::specs::Tokens::tokens_of, crate::specs::Tokens::field_after))]
     pub fn number(&mut self, name: &str, number: Option<u64>) -> Result<(), AllocError>
         ensures ok { OnOk result (self.new.tokens ≡ field_after self.old.tokens name.now (option_map number_data number)) }
         ensures before { self.new.before ≡ self.old.before }
@@ -130,6 +131,7 @@ impl ObjectWriter {
     }
 
     /// A number of 32 bits under a name, where there is one.
+    #[tactic(auto, unfolding(crate::specs::Tokens::tokens_of, crate::specs::Tokens::field_after))]
     pub fn number_32(&mut self, name: &str, number: Option<u32>) -> Result<(), AllocError>
         ensures ok { OnOk result (self.new.tokens ≡ field_after self.old.tokens name.now (option_map number_data number)) }
         ensures before { self.new.before ≡ self.old.before }
@@ -144,6 +146,7 @@ impl ObjectWriter {
     }
 
     /// A text under a name.
+    #[tactic(auto, unfolding(crate::specs::Tokens::tokens_of, crate::specs::Tokens::field_after))]
     pub fn text(&mut self, name: &str, text: &str) -> Result<(), AllocError>
         ensures ok { OnOk result (self.new.tokens ≡ field_after self.old.tokens name.now (Some (string text.now))) }
         ensures before { self.new.before ≡ self.old.before }
@@ -152,7 +155,20 @@ impl ObjectWriter {
         self.out.string(text)
     }
 
+    /// A text under a name, where there is one.
+    #[tactic(auto, unfolding(crate::specs::Tokens::tokens_of, crate::specs::Tokens::field_after))]
+    pub fn text_if(&mut self, name: &str, text: &Option<Text>) -> Result<(), AllocError>
+        ensures ok { OnOk result (self.new.tokens ≡ field_after self.old.tokens name.now (option_map string text.now)) }
+        ensures before { self.new.before ≡ self.old.before }
+    {
+        match text {
+            Some(text) => self.text(name, text.as_str()),
+            None => Ok(()),
+        }
+    }
+
     /// A truth value under a name.
+    #[tactic(auto, unfolding(crate::specs::Tokens::tokens_of, crate::specs::Tokens::field_after))]
     pub fn boolean(&mut self, name: &str, value: bool) -> Result<(), AllocError>
         ensures ok { OnOk result (self.new.tokens ≡ field_after self.old.tokens name.now (Some (boolean value))) }
         ensures before { self.new.before ≡ self.old.before }
@@ -162,6 +178,7 @@ impl ObjectWriter {
     }
 
     /// A moment under a name, where there is one.
+    #[tactic(auto, unfolding(crate::specs::Tokens::tokens_of, crate::specs::Tokens::field_after))]
     pub fn time(&mut self, name: &str, moment: Option<Moment>) -> Result<(), AllocError>
         ensures ok { OnOk result (self.new.tokens ≡ field_after self.old.tokens name.now (option_map time_data moment)) }
         ensures before { self.new.before ≡ self.old.before }
@@ -173,6 +190,7 @@ impl ObjectWriter {
     }
 
     // A moment under a name.
+    #[tactic(auto, unfolding(crate::specs::Tokens::tokens_of, crate::specs::Tokens::field_after))]
     fn moment(&mut self, name: &str, moment: Moment) -> Result<(), AllocError>
         ensures ok { OnOk result (self.new.tokens ≡ field_after self.old.tokens name.now (Some (time_data moment))) }
         ensures before { self.new.before ≡ self.old.before }
