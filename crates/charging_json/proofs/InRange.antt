@@ -1,5 +1,5 @@
 -- What is read of a charging data request is in range.
-use Rattle.std.proofs.Common.{◌≡◌, ◌≤◌, ◌+◌, ◌-◌, ◌^◌, ◌==◌, ℕ, ℤ, pos, negsuc, ◌+ℤ◌, ◌-ℤ◌, ◌*ℤ◌, Bool, true, false, not, ◌&&◌, ◌||◌, List, [], ◌∷◌, length, nat_le, Option, Some, None, Result, Ok, Err, IfSome, IfOk, option_map, option_and_then, unwrap_or, refl, sym, arith, codes, if◌then◌else◌}
+use Rattle.std.proofs.Common.{◌≡◌, ◌≤◌, ◌+◌, ◌-◌, ◌^◌, ◌==◌, ℕ, ℤ, pos, negsuc, ◌+ℤ◌, ◌-ℤ◌, ◌*ℤ◌, Bool, true, false, not, ◌&&◌, ◌||◌, List, length, nat_le, Option, Some, None, Result, Ok, Err, IfSome, IfOk, option_map, option_and_then, unwrap_or, refl, sym, arith, codes, if◌then◌else◌}
 use Rattle.std.proofs.lemmas.Bool.Decides.{nat_tests}
 use Rattle.std.proofs.lemmas.Bool.{true≢false}
 use Rattle.std.specs.Prelude.{⊤}
@@ -15,14 +15,12 @@ use Rattle.units.specs.Limits.{most_entries}
 use Rattle.units.specs.Names.{spells_name, is_kind, is_address}
 use Rattle.units.specs.Ranges.{Is32, IsMoment, IsVolume, IsKind, IsName, IsAddress, IfGiven, FitsContainer, FitsAsk, FitsUsage, FitsRequest, is_create}
 use Rattle.units.specs.declared.refusal.JsonRefusal.{JsonRefusal}
-use Rattle.units.specs.declared.request.Ask.{Ask}
 use Rattle.units.specs.declared.request.Operation.{Operation}
-use Rattle.units.specs.declared.request.Request.{Request}
 use Rattle.charging_json.specs.declared.container.Counts.{Counts}
 use Rattle.charging_json.specs.declared.container.Times.{Times}
-use Rattle.charging_json.specs.Fields.{given, is_object, within, number_to, number_32, volume, time, that_passes, text_that, name, optional, needed, joined, each, list_of, or_empty, required, allowed, required_if, after}
-use Rattle.charging_json.specs.Triggers.{category, kind_of, limits_of, sound_kind}
-use Rattle.charging_json.specs.Usage.{rest_of, directions, volumes_of, usage_times, in_order, from_moment, times_of, with_counts, counts_of, with_used, used_of, with_ask, ask_of, count, short, short_list_of, with_usage, containers_of, entry_of}
+use Rattle.json_objects.specs.Fields.{given, is_object, within, number_to, number_32, volume, time, that_passes, text_that, name, optional, needed, joined, each, list_of, or_empty, required, allowed, required_if, after}
+use Rattle.charging_json.specs.Triggers.{kind_of, limits_of, sound_kind}
+use Rattle.charging_json.specs.Usage.{rest_of, directions, volumes_of, usage_times, in_order, from_moment, times_of, counts_of, used_of, ask_of, count, short, short_list_of, containers_of, entry_of}
 use Rattle.charging_json.specs.Request.{consumer_place, named, consumer_of, charging_id_place, request_of}
 
 -- ---- steps

@@ -1,5 +1,5 @@
 -- A written request has a byte at least for each of its containers.
-use Rattle.std.proofs.Common.{◌≡◌, ◌≤◌, ◌+◌, ◌++◌, ℕ, suc, Bool, true, false, List, [], ◌∷◌, map, length, sum_by, Option, Some, None, Result, Ok, Err, IfOk, refl, ◌∙◌, ap, arith, codes}
+use Rattle.std.proofs.Common.{◌≡◌, ◌≤◌, ◌+◌, ◌++◌, ℕ, suc, Bool, true, false, List, [], ◌∷◌, map, length, sum_by, Option, Some, None, ap, arith, codes}
 use Rattle.std.proofs.lemmas.List.{length-append}
 use Rattle.std.proofs.lemmas.List.Sums.{sum_by-cons}
 use Rattle.std.specs.Ordering.{nat_cmp, match_ordering}
@@ -14,8 +14,8 @@ use Rattle.serde_json.specs.Written.{compact_text, items_text, members_text, com
 use Rattle.units.specs.declared.request.Used.{Used}
 use Rattle.units.specs.declared.request.UnitUsage.{UnitUsage}
 use Rattle.units.specs.declared.request.Request.{Request}
-use Rattle.charging_json.specs.Fields.{unless_null, given}
-use Rattle.charging_json.specs.Written.{listed, with_fields}
+use Rattle.json_objects.specs.Fields.{unless_null, given}
+use Rattle.json_objects.specs.Objects.{listed, with_fields}
 use Rattle.charging_json.specs.RequestWritten.{used_data, usage_data, usage_fields, request_data, request_fields, container_count}
 use Rattle.charging_json.proofs.LookUp.{look_up}
 
@@ -106,13 +106,9 @@ usages_long : (usage : List UnitUsage) → sum_by (λ u. length u.used) usage �
 usages_long [] = omega arith
 usages_long (u ∷ usage) = let l = usage_long u in let m = usages_long usage in let s = sum_by-cons (λ (v : UnitUsage). length v.used) u usage in omega (arith, l, m, s)
 
-request_long : (request : Request) → container_count request ≤ length (compact_text (request_data request))
+pub request_long : (request : Request) → container_count request ≤ length (compact_text (request_data request))
 request_long request = let l = text_long (request_data request) in let m = by request.usage (look_up (codes "multipleUnitUsage") (request_fields request)) in omega (arith, l, m)
   where
     by : (usage : List UnitUsage) → given (codes "multipleUnitUsage") (request_data request) ≡ unless_null (listed (map usage_data usage)) → sum_by (λ u. length u.used) usage ≤ objects (request_data request)
     by [] e = omega arith
     by (u ∷ usage) e = let l = field_less (codes "multipleUnitUsage") (with_fields (request_fields request) no_members) (array (items_of (map usage_data (u ∷ usage)))) e in let m = usages_long (u ∷ usage) in omega (arith, l, m)
-
-pub written_long : {E : Type 0} (r : Result (List ℕ) E) (request : Request) → IfOk r (λ b. b ≡ compact_text (request_data request)) → IfOk r (λ b. container_count request ≤ length b)
-written_long (Ok b) request e = let l = request_long request in let same : length b ≡ length (compact_text (request_data request)) = ap length e in omega (arith, l, same)
-written_long (Err x) request e = tt

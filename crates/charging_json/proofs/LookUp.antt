@@ -9,10 +9,10 @@ use Rattle.serde_json.specs.Data.{Data, Members, no_members}
 use Rattle.serde_json.specs.Find.{get_member}
 use Rattle.serde_json.specs.View.{items_of}
 use Rattle.serde_json.proofs.Views.{get_member-put, get_member-put_other}
-use Rattle.charging_json.specs.Fields.{unless_null, given, optional, each, list_of, or_empty, allowed, required_if}
+use Rattle.json_objects.specs.Fields.{unless_null, given, optional, each, list_of, or_empty, allowed, required_if}
 use Rattle.units.specs.Ranges.{IfGiven}
 use Rattle.charging_json.specs.Usage.{count, short, short_list_of}
-use Rattle.charging_json.specs.Written.{put_if, with_fields, object_of, listed}
+use Rattle.json_objects.specs.Objects.{put_if, with_fields, object_of, listed}
 
 abbrev pub or_else : Option Data → Option Data → Option Data
 or_else None later = later

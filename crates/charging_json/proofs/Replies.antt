@@ -1,44 +1,46 @@
 -- The body of a reply is read as that reply.
-use Rattle.std.proofs.Common.{◌≡◌, ℕ, List, Option, Result, Ok, Err, IfOk, Some, None, refl, sym, ◌∙◌, ap, subst, codes}
+use Rattle.std.proofs.Common.{◌≡◌, ℕ, Result, Ok, Err, OnOk, Some, None, sym, ◌∙◌, ap, subst, codes}
+use Rattle.serde_json.specs.Written.{compact_text}
 use Rattle.units.specs.declared.answer.Answer.{Answer}
 use Rattle.units.specs.declared.reply.Problem.{Problem}
 use Rattle.units.specs.declared.reply.Reply.{Reply}
 use Rattle.units.specs.declared.reply.Reply.TheVariants.{Created, Updated, Refused}
-use Rattle.units.specs.ReplyRanges.{FitsReply}
-use Rattle.charging_json.specs.Fields.{required, after}
+use Rattle.units.specs.ReplyRanges.{FitsAnswer, FitsReply}
+use Rattle.json_objects.specs.Fields.{required, after}
 use Rattle.charging_json.specs.Location.{location_text}
-use Rattle.charging_json.specs.Body.{object_in}
+use Rattle.json_objects.specs.Body.{object_in}
 use Rattle.charging_json.specs.Reply.{reference_given, reply_by, reply_in}
-use Rattle.charging_json.specs.ReplyWritten.{answer_data, problem_data, status_of, location_of}
+use Rattle.charging_json.specs.ReplyWritten.{answer_data, problem_data, reply_text, status_of, location_of}
 use Rattle.charging_json.proofs.RequestBack.{TimesRead}
 use Rattle.charging_json.proofs.ReplyBack.{answer_back, problem_back}
 use Rattle.charging_json.proofs.LocationBack.{location_back}
 
--- it is read so, with its status and its Location
-abbrev ReadsBack : {E : Type 0} → Result (List ℕ) E → Reply → Type 0
-ReadsBack r reply = FitsReply reply → IfOk r (λ b. reply_in (status_of reply) (location_of reply) b ≡ Ok reply)
+-- its body is read so, with its status and its Location
+abbrev ReadsBack : {E : Type 0} → Result (Unit {0}) E → Reply → Type 0
+ReadsBack r reply = FitsReply reply → OnOk r (reply_in (status_of reply) (location_of reply) (reply_text reply) ≡ Ok reply)
 
-created_case : {E : Type 0} (r : Result (List ℕ) E) (reference : ℕ) (answer : Answer) → TimesRead → IfOk r (λ b. object_in b ≡ Some (answer_data answer)) → ReadsBack r (Created reference answer)
+created_case : {E : Type 0} (r : Result (Unit {0}) E) (reference : ℕ) (answer : Answer) → TimesRead → (FitsAnswer answer → OnOk r (object_in (compact_text (answer_data answer)) ≡ Some (answer_data answer))) → ReadsBack r (Created reference answer)
 created_case (Err e) reference answer times body fits = tt
-created_case (Ok b) reference answer times body fits =
-    ap (reply_by 201 (Some (location_text reference))) body
+created_case (Ok x) reference answer times body fits =
+    ap (reply_by 201 (Some (location_text reference))) (body fits.2)
     ∙ ap (λ told. after told (λ a. after (reference_given (Some (location_text reference))) (λ n. Ok (Created n a)))) (answer_back times answer fits.2)
     ∙ ap (λ o. after (required (codes "Location") (Some o)) (λ n. Ok (Created n answer))) (location_back reference fits.0 fits.1)
 
-updated_case : {E : Type 0} (r : Result (List ℕ) E) (answer : Answer) → TimesRead → IfOk r (λ b. object_in b ≡ Some (answer_data answer)) → ReadsBack r (Updated answer)
+updated_case : {E : Type 0} (r : Result (Unit {0}) E) (answer : Answer) → TimesRead → (FitsAnswer answer → OnOk r (object_in (compact_text (answer_data answer)) ≡ Some (answer_data answer))) → ReadsBack r (Updated answer)
 updated_case (Err e) answer times body fits = tt
-updated_case (Ok b) answer times body fits = ap (reply_by 200 None) body ∙ ap (λ told. after told (λ a. Ok (Updated a))) (answer_back times answer fits)
+updated_case (Ok x) answer times body fits = ap (reply_by 200 None) (body fits) ∙ ap (λ told. after told (λ a. Ok (Updated a))) (answer_back times answer fits)
 
-refused_case : {E : Type 0} (r : Result (List ℕ) E) (problem : Problem) → IfOk r (λ b. object_in b ≡ Some (problem_data problem)) → ReadsBack r (Refused problem)
+refused_case : {E : Type 0} (r : Result (Unit {0}) E) (problem : Problem) → OnOk r (object_in (compact_text (problem_data problem)) ≡ Some (problem_data problem)) → ReadsBack r (Refused problem)
 refused_case (Err e) problem body fits = tt
-refused_case (Ok b) problem body fits =
+refused_case (Ok x) problem body fits =
     rw fits.not_released (ap (reply_by problem.status None) body ∙ rw (fits.not_created, fits.not_updated) (ap (λ told. after told (λ p. Ok (Refused p))) (problem_back problem)))
 
-pub created_back : {E : Type 0} (r : Result (List ℕ) E) (reply : Reply) (reference : ℕ) (answer : Answer) → reply ≡ Created reference answer → TimesRead → IfOk r (λ b. object_in b ≡ Some (answer_data answer)) → ReadsBack r reply
+pub created_back : {E : Type 0} (r : Result (Unit {0}) E) (reply : Reply) (reference : ℕ) (answer : Answer) → reply ≡ Created reference answer → TimesRead
+    → (FitsAnswer answer → OnOk r (object_in (compact_text (answer_data answer)) ≡ Some (answer_data answer))) → ReadsBack r reply
 created_back r reply reference answer is times body = subst (ReadsBack r) (sym is) (created_case r reference answer times body)
 
-pub updated_back : {E : Type 0} (r : Result (List ℕ) E) (reply : Reply) (answer : Answer) → reply ≡ Updated answer → TimesRead → IfOk r (λ b. object_in b ≡ Some (answer_data answer)) → ReadsBack r reply
+pub updated_back : {E : Type 0} (r : Result (Unit {0}) E) (reply : Reply) (answer : Answer) → reply ≡ Updated answer → TimesRead → (FitsAnswer answer → OnOk r (object_in (compact_text (answer_data answer)) ≡ Some (answer_data answer))) → ReadsBack r reply
 updated_back r reply answer is times body = subst (ReadsBack r) (sym is) (updated_case r answer times body)
 
-pub refused_back : {E : Type 0} (r : Result (List ℕ) E) (reply : Reply) (problem : Problem) → reply ≡ Refused problem → IfOk r (λ b. object_in b ≡ Some (problem_data problem)) → ReadsBack r reply
+pub refused_back : {E : Type 0} (r : Result (Unit {0}) E) (reply : Reply) (problem : Problem) → reply ≡ Refused problem → OnOk r (object_in (compact_text (problem_data problem)) ≡ Some (problem_data problem)) → ReadsBack r reply
 refused_back r reply problem is body = subst (ReadsBack r) (sym is) (refused_case r problem body)

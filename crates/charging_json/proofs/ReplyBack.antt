@@ -19,14 +19,14 @@ use Rattle.units.specs.declared.trigger.TriggerRule.{TriggerRule}
 use Rattle.units.specs.declared.trigger.TriggerType.{TriggerType}
 use Rattle.units.specs.declared.trigger.TriggerType.TheVariants.{Final, QuotaExhausted, QuotaThreshold, ValidityTime, QuotaHoldingTime, TariffTimeChange, VolumeLimit, TimeLimit, ForcedReauthorisation, QosChange, RatChange, PlmnChange, UserLocationChange, UeTimezoneChange, SessionAmbrChange, ServingNodeChange, ManagementIntervention, MaxNumberOfChangesInChargingConditions, AbnormalRelease}
 use Rattle.units.specs.declared.reply.Problem.{Problem}
-use Rattle.charging_json.specs.Fields.{unless_null, given, is_object, number_32, volume, time, optional, list_of, or_empty, allowed}
+use Rattle.json_objects.specs.Fields.{unless_null, given, is_object, number_32, volume, time, optional, list_of, or_empty, allowed}
 use Rattle.units.specs.Names.{is_kind}
 use Rattle.units.specs.Words.{name_of_type, type_named, name_of_category, is_immediate, name_of_code, code_named}
 use Rattle.charging_json.specs.Triggers.{first_given}
 use Rattle.charging_json.specs.Rules.{rule_of, rules_in, rules_of}
 use Rattle.charging_json.specs.Information.{last_units_of, amount, with_granted, granted_of, with_bounds, bounds_of, info_of}
 use Rattle.charging_json.specs.Reply.{result_of, failover, flat, with_answer, answer_of, with_problem, problem_of}
-use Rattle.charging_json.specs.Written.{number_data, time_data, object_of, listed}
+use Rattle.json_objects.specs.Objects.{number_data, time_data, object_of, listed}
 use Rattle.charging_json.specs.ReplyWritten.{rule_data, rule_fields, octets_of, seconds_of, granted_fields, granted_data, last_units_data, info_data, info_fields, result_data, failover_data, answer_data, answer_fields, problem_data, problem_fields}
 use Rattle.units.specs.Ranges.{Is32, IsMoment, IsVolume, IfGiven}
 use Rattle.units.specs.ReplyRanges.{FitsRule, FitsAmount, FitsInfo, FitsAnswer}

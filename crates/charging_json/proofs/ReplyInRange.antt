@@ -1,5 +1,5 @@
 -- What is read of a reply is in range.
-use Rattle.std.proofs.Common.{◌≡◌, ◌≤◌, ◌-◌, ◌^◌, ◌==◌, ℕ, Bool, true, false, ◌&&◌, List, [], ◌∷◌, length, nat_le, Option, Some, None, Result, Ok, Err, IfSome, IfOk, option_map, option_and_then, refl, arith, codes, if◌then◌else◌}
+use Rattle.std.proofs.Common.{◌≡◌, ◌≤◌, ◌==◌, ℕ, Bool, true, false, ◌&&◌, List, nat_le, Option, Some, None, IfSome, IfOk, option_map, option_and_then, refl, arith, codes, if◌then◌else◌}
 use Rattle.std.proofs.lemmas.Bool.Decides.{nat_tests}
 use Rattle.std.specs.Prelude.{⊤}
 use Rattle.std.specs.List.{AllByRecursion}
@@ -10,19 +10,16 @@ use Rattle.rows.specs.Number.{number_of, is_numeral}
 use Rattle.units.specs.Words.{type_named}
 use Rattle.units.specs.Ranges.{Is32, IsMoment, IsVolume, IfGiven}
 use Rattle.units.specs.ReplyRanges.{FitsRule, FitsAmount, FitsInfo, FitsAnswer, FitsReply}
-use Rattle.units.specs.declared.refusal.JsonRefusal.{JsonRefusal}
 use Rattle.units.specs.declared.trigger.TriggerRule.{TriggerRule}
 use Rattle.units.specs.declared.trigger.TriggerType.{TriggerType}
-use Rattle.units.specs.declared.answer.Answer.{Answer}
-use Rattle.units.specs.declared.answer.Amount.TheVariants.{Volume, Seconds}
 use Rattle.units.specs.declared.reply.Problem.{Problem}
 use Rattle.charging_json.specs.declared.triggers.Limits.{Limits}
 use Rattle.charging_json.specs.declared.information.Granted.{Granted}
 use Rattle.charging_json.specs.declared.information.Bounds.{Bounds}
-use Rattle.charging_json.specs.Fields.{given, is_object, number_32, volume, time, optional, needed, list_of, required, allowed}
+use Rattle.json_objects.specs.Fields.{given, is_object, number_32, volume, time, optional, needed, list_of, required, allowed}
 use Rattle.charging_json.specs.Triggers.{first_given, category, limits_of, kind_of}
 use Rattle.charging_json.specs.Rules.{with_rule, rule_of, kept, rules_in, rules_of}
-use Rattle.charging_json.specs.Information.{code, amount, with_granted, granted_of, bounds_of, last_units_of, info_of}
+use Rattle.charging_json.specs.Information.{code, amount, granted_of, bounds_of, last_units_of, info_of}
 use Rattle.charging_json.specs.Location.{positive, reference_in, below_collection, path_of, reference_of}
 use Rattle.charging_json.specs.Reply.{result_of, failover, answer_of, problem_of, reference_given, created_of, updated_of, refused_of, reply_of}
 use Rattle.charging_json.proofs.InRange.{chain, step, mapped, if_in, number_32_in, volume_in, time_in, optional_in, joined_in, list_in, all_or_empty, then_in, required_in, allowed_in}

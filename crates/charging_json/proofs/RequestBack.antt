@@ -10,14 +10,14 @@ use Rattle.units.specs.declared.request.Used.{Used}
 use Rattle.units.specs.declared.request.UnitUsage.{UnitUsage}
 use Rattle.units.specs.declared.request.Request.{Request}
 use Rattle.units.specs.declared.request.Operation.{Operation}
-use Rattle.charging_json.specs.Fields.{unless_null, given, is_object, number_to, number_32, volume, time, name, text_that, optional, list_of, or_empty, allowed, required_if}
+use Rattle.json_objects.specs.Fields.{unless_null, given, is_object, number_to, number_32, volume, time, name, text_that, optional, list_of, or_empty, allowed, required_if}
 use Rattle.charging_json.specs.Triggers.{sound_kind}
 use Rattle.charging_json.specs.Usage.{times_of, counts_of, with_counts, used_of, ask_of, with_ask, containers_of, entry_of, short_list_of}
 use Rattle.charging_json.specs.Request.{consumer_of, charging_id_place, given_within, either_place, is_again, with_request, request_of}
 use Rattle.serde_json.specs.Find.{as_bool}
 use Rattle.std.specs.Option.{is_some}
 use Rattle.std.proofs.lemmas.Bool.{and_parts, true≢false}
-use Rattle.charging_json.specs.Written.{number_data, time_data, listed}
+use Rattle.json_objects.specs.Objects.{number_data, time_data, listed}
 use Rattle.charging_json.specs.RequestWritten.{trigger_data, total_of, span_data, used_data, used_fields, ask_data, ask_fields, usage_data, usage_fields, consumer_data, again_data, request_data, request_fields}
 use Rattle.units.specs.Ranges.{IsKind, IsName, IsAddress, IsVolume, Is32, FitsContainer, FitsAsk, FitsUsage, FitsRequest}
 use Rattle.charging_json.proofs.LookUp.{look_up, not_null, unless_empty, empty_again, list_back, short_list_back, optional_is, given_back, present, allowed_is, required_if_is}

@@ -4,7 +4,7 @@ use Rattle.std.proofs.lemmas.List.{at_drop_more, at_drop_all}
 use Rattle.serde_json.specs.View.{view, items_view}
 use Rattle.serde_json.specs.declared.value.Value.{Value}
 use Rattle.units.specs.declared.trigger.TriggerRule.{TriggerRule}
-use Rattle.charging_json.specs.Fields.{joined}
+use Rattle.json_objects.specs.Fields.{joined}
 use Rattle.charging_json.specs.Rules.{kept, rule_of, rules_in}
 pub use Rattle.charging_json.proofs.Walk.{then_more}
 

@@ -5,7 +5,7 @@ use Rattle.serde_json.specs.Data.{Data}
 use Rattle.serde_json.specs.View.{view, items_view}
 use Rattle.serde_json.specs.declared.value.Value.{Value}
 use Rattle.std.proofs.lemmas.Bool.Decides.{nat_tests}
-use Rattle.charging_json.specs.Fields.{joined, each}
+use Rattle.json_objects.specs.Fields.{joined, each}
 use Rattle.charging_json.specs.Usage.{count, short}
 
 -- what was found, and then the rest

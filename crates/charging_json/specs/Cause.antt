@@ -1,11 +1,10 @@
 -- The cause of a refused body (TS 29.500, 5.2.7.2; TS 29.571, ProblemDetails).
-use Rattle.std.specs.Prelude.{ℕ, ◌&&◌, ◌||◌, Bool, List, bytes_eq, if◌then◌else◌, codes}
+use Rattle.std.specs.Prelude.{ℕ, ◌&&◌, ◌||◌, Bool, List, bytes_eq, codes}
 use Rattle.units.specs.Ranges.{is_create}
 use Rattle.units.specs.declared.words.Cause.{Cause}
-use Rattle.units.specs.declared.words.Cause.TheVariants.{InvalidMessage, MandatoryMissing, MandatoryIncorrect, OptionalIncorrect, NoMemory}
 use Rattle.units.specs.declared.request.Operation.{Operation}
 use Rattle.units.specs.declared.refusal.JsonRefusal.{JsonRefusal}
-use Rattle.units.specs.declared.refusal.JsonRefusal.TheVariants.{NotJson, Missing, Wrong, OutOfMemory}
+use Rattle.json_objects.specs.Cause.{cause_by}
 
 -- the fields that each request has to have
 abbrev pub is_always_required : List ℕ → Bool
@@ -18,13 +17,6 @@ is_required_in_create label = bytes_eq label (codes "subscriberIdentifier") || b
 -- the fields that a request of an operation has to have
 abbrev pub is_required : Operation → List ℕ → Bool
 is_required operation label = is_always_required label || (is_create operation && is_required_in_create label)
-
--- the cause of a refusal, by a test that says which fields are required
-abbrev pub cause_by : (List ℕ → Bool) → JsonRefusal → Cause
-cause_by required NotJson = InvalidMessage
-cause_by required (Missing label) = MandatoryMissing
-cause_by required (Wrong label) = if required label then MandatoryIncorrect else OptionalIncorrect
-cause_by required OutOfMemory = NoMemory
 
 -- the cause of a refused charging data request
 abbrev pub cause_of : Operation → JsonRefusal → Cause

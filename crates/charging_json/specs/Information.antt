@@ -1,5 +1,5 @@
 -- Multiple unit information (TS 32.291, 6.1.6.2.1.8 to 6.1.6.2.1.10).
-use Rattle.std.specs.Prelude.{ℕ, List, Option, Some, None, bytes_eq, if◌then◌else◌, option_map, option_and_then, codes}
+use Rattle.std.specs.Prelude.{ℕ, List, Option, Some, None, if◌then◌else◌, option_map, option_and_then, codes}
 use Rattle.serde_json.specs.Data.{Data}
 use Rattle.serde_json.specs.Find.{as_str}
 use Rattle.units.specs.Words.{code_named, action_named}
@@ -11,7 +11,7 @@ use Rattle.units.specs.declared.answer.UnitInfo.{UnitInfo}
 use Rattle.units.specs.declared.trigger.TriggerRule.{TriggerRule}
 use Rattle.charging_json.specs.declared.information.Granted.{Granted}
 use Rattle.charging_json.specs.declared.information.Bounds.{Bounds}
-use Rattle.charging_json.specs.Fields.{given, is_object, number_32, volume, time, optional, needed, or_empty}
+use Rattle.json_objects.specs.Fields.{given, is_object, number_32, volume, time, optional, needed, or_empty}
 use Rattle.charging_json.specs.Rules.{rules_of}
 
 -- a result code, which is any text

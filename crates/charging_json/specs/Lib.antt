@@ -1,9 +1,6 @@
-pub mod Fields
-pub mod Body
 pub mod Triggers
 pub mod Usage
 pub mod Request
-pub mod Written
 pub mod RequestWritten
 pub mod Cause
 pub mod Rules

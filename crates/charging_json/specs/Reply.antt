@@ -12,11 +12,11 @@ use Rattle.units.specs.declared.reply.Reply.{Reply}
 use Rattle.units.specs.declared.reply.Reply.TheVariants.{Created, Updated, Released, Refused}
 use Rattle.units.specs.declared.refusal.JsonRefusal.{JsonRefusal}
 use Rattle.units.specs.declared.refusal.JsonRefusal.TheVariants.{NotJson}
-use Rattle.charging_json.specs.Fields.{given, is_object, number_32, time, optional, list_of, or_empty, required, allowed, after}
+use Rattle.json_objects.specs.Fields.{given, is_object, number_32, time, optional, list_of, or_empty, required, allowed, after}
 use Rattle.charging_json.specs.Rules.{rules_of}
 use Rattle.charging_json.specs.Information.{info_of}
 use Rattle.charging_json.specs.Location.{reference_of}
-use Rattle.charging_json.specs.Body.{object_in}
+use Rattle.json_objects.specs.Body.{object_in}
 
 -- the failure handling that a value names
 abbrev pub handling : Data → Option Handling

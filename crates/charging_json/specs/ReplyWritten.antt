@@ -1,5 +1,5 @@
 -- The reply to a charging data request as it is written (TS 32.291, 6.1.6.2.1.6 and 6.1.7, in this product's profile).
-use Rattle.std.specs.Prelude.{ℕ, Bool, true, false, List, [], ◌∷◌, Option, Some, None, option_map, map, codes}
+use Rattle.std.specs.Prelude.{ℕ, Bool, List, [], ◌∷◌, Option, Some, None, option_map, map, codes}
 use Rattle.serde_json.specs.Data.{Data, string}
 use Rattle.serde_json.specs.Written.{compact_text}
 use Rattle.units.specs.Words.{name_of_type, name_of_category, name_of_code, name_of_action, name_of_handling, name_of_failover}
@@ -14,7 +14,7 @@ use Rattle.units.specs.declared.reply.Problem.{Problem}
 use Rattle.units.specs.declared.reply.Reply.{Reply}
 use Rattle.units.specs.declared.reply.Reply.TheVariants.{Created, Updated, Released, Refused}
 use Rattle.charging_json.specs.Location.{location_text}
-use Rattle.charging_json.specs.Written.{object_of, listed, number_data, time_data}
+use Rattle.json_objects.specs.Objects.{object_of, listed, number_data, time_data}
 
 -- ---- objects
 

@@ -9,8 +9,8 @@ use Rattle.units.specs.declared.request.Request.{Request}
 use Rattle.units.specs.declared.request.UnitUsage.{UnitUsage}
 use Rattle.units.specs.declared.refusal.JsonRefusal.{JsonRefusal}
 use Rattle.units.specs.declared.refusal.JsonRefusal.TheVariants.{NotJson}
-use Rattle.charging_json.specs.Fields.{given, number_32, time, name, text_that, list_of, or_empty, required, allowed, required_if, after}
-use Rattle.charging_json.specs.Body.{object_in}
+use Rattle.json_objects.specs.Fields.{given, number_32, time, name, text_that, list_of, or_empty, required, allowed, required_if, after}
+use Rattle.json_objects.specs.Body.{object_in}
 use Rattle.charging_json.specs.Triggers.{sound_kind}
 use Rattle.charging_json.specs.Usage.{entry_of, short_list_of}
 

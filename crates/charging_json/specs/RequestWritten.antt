@@ -6,7 +6,7 @@ use Rattle.units.specs.declared.request.Ask.{Ask}
 use Rattle.units.specs.declared.request.Used.{Used}
 use Rattle.units.specs.declared.request.UnitUsage.{UnitUsage}
 use Rattle.units.specs.declared.request.Request.{Request}
-use Rattle.charging_json.specs.Written.{object_of, listed, number_data, time_data}
+use Rattle.json_objects.specs.Objects.{object_of, listed, number_data, time_data}
 
 -- a trigger of a request, of which only the type is kept
 abbrev pub trigger_fields : List ℕ → List (List ℕ × Option Data)

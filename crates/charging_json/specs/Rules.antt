@@ -1,12 +1,12 @@
 -- The triggers of a reply (TS 32.291, 6.1.6.2.1.7 and 6.1.6.3.6; the set of types is this product's profile).
-use Rattle.std.specs.Prelude.{ℕ, List, [], ◌∷◌, Option, Some, None, bytes_eq, if◌then◌else◌, option_map, option_and_then, codes}
+use Rattle.std.specs.Prelude.{List, [], Option, Some, None, option_map, option_and_then}
 use Rattle.serde_json.specs.Data.{Data, Items, no_items, item}
 use Rattle.serde_json.specs.Find.{as_array}
 use Rattle.units.specs.Words.{type_named}
 use Rattle.units.specs.declared.trigger.TriggerRule.{TriggerRule}
 use Rattle.units.specs.declared.trigger.TriggerType.{TriggerType}
 use Rattle.charging_json.specs.declared.triggers.Limits.{Limits}
-use Rattle.charging_json.specs.Fields.{joined}
+use Rattle.json_objects.specs.Fields.{joined}
 use Rattle.charging_json.specs.Triggers.{limits_of, kind_of}
 
 abbrev pub with_rule : Limits → TriggerType → TriggerRule

@@ -1,12 +1,11 @@
 -- Triggers (TS 32.291, 6.1.6.2.1.7 and 6.1.6.3.6).
-use Rattle.std.specs.Prelude.{ℕ, ◌&&◌, nat_le, Bool, true, false, List, length, Option, Some, None, if◌then◌else◌, option_map, option_and_then, unwrap_or, codes, bytes_eq}
-use Rattle.std.specs.List.{list_all}
+use Rattle.std.specs.Prelude.{ℕ, Bool, true, List, Option, Some, None, option_map, option_and_then, unwrap_or, codes}
 use Rattle.serde_json.specs.Data.{Data}
 use Rattle.serde_json.specs.Find.{as_str}
 use Rattle.units.specs.Names.{is_kind}
 use Rattle.units.specs.Words.{is_immediate}
 use Rattle.charging_json.specs.declared.triggers.Limits.{Limits}
-use Rattle.charging_json.specs.Fields.{given, number_32, volume, text_that, optional, needed}
+use Rattle.json_objects.specs.Fields.{given, number_32, volume, text_that, optional, needed}
 
 -- the category that a value names
 abbrev pub category : Data → Option Bool

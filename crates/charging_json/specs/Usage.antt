@@ -8,7 +8,7 @@ use Rattle.units.specs.declared.request.Used.{Used}
 use Rattle.units.specs.declared.request.UnitUsage.{UnitUsage}
 use Rattle.charging_json.specs.declared.container.Counts.{Counts}
 use Rattle.charging_json.specs.declared.container.Times.{Times}
-use Rattle.charging_json.specs.Fields.{given, is_object, number_to, number_32, volume, time, optional, needed, each, list_of, or_empty}
+use Rattle.json_objects.specs.Fields.{given, is_object, number_to, number_32, volume, time, optional, needed, each, list_of, or_empty}
 use Rattle.charging_json.specs.Triggers.{sound_kind}
 
 -- ---- volumes

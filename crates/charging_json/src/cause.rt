@@ -1,7 +1,8 @@
 ghost use Rattle.std.specs.Prelude.{◌≡◌};
-ghost use Rattle.charging_json.specs.Cause.{is_always_required, is_required_in_create, is_required, cause_by, cause_of};
+ghost use Rattle.charging_json.specs.Cause.{is_always_required, is_required_in_create, is_required, cause_of};
 
 use crate::request_reader::is_create;
+use json_objects::cause_by;
 use units::{Cause, JsonRefusal, Operation};
 
 fn is_always_required(label: &str) -> bool
@@ -25,26 +26,10 @@ fn is_required(operation: Operation, label: &str) -> bool
     is_always_required(label) || is_create(operation) && is_required_in_create(label)
 }
 
-/// The cause of a refused body, for whoever answers over HTTP (TS 29.500, 5.2.7.2), where a wrong field is required or is
-/// not: `InvalidMessage` for a body that is no JSON object, `MandatoryMissing` for a field that is absent,
-/// `MandatoryIncorrect` for a wrong field that is required, `OptionalIncorrect` for another; `NoMemory` (this product's
-/// own) where memory was wanting.
-pub fn cause_by(required: bool, refusal: &JsonRefusal) -> Cause
-    ensures { result ≡ cause_by (λ label. required) refusal.now }
-{
-    match refusal {
-        JsonRefusal::NotJson => Cause::InvalidMessage,
-        JsonRefusal::Missing { .. } => Cause::MandatoryMissing,
-        JsonRefusal::Wrong { .. } => if required {
-            Cause::MandatoryIncorrect
-        } else {
-            Cause::OptionalIncorrect
-        },
-        JsonRefusal::OutOfMemory => Cause::NoMemory,
-    }
-}
-
-/// The cause of a refused charging data request of an operation.
+/// The cause of a refused charging data request of an operation, for whoever answers it over HTTP (TS 29.500, 5.2.7.2):
+/// `InvalidMessage` for a body that is no JSON object, `MandatoryMissing` for a field that is absent, `MandatoryIncorrect`
+/// for a wrong field that the operation requires, `OptionalIncorrect` for another; `NoMemory` (this product's own) where
+/// memory was wanting.
 pub fn cause_of(operation: Operation, refusal: &JsonRefusal) -> Cause
     ensures { result ≡ cause_of operation refusal.now }
 {

@@ -1,12 +1,12 @@
 ghost use Rattle.std.specs.Prelude.{◌≡◌, ◌≤◌, ◌^◌, ℕ, codes, IfOk, Some, option_map, option_and_then, vec_len};
 ghost use Rattle.serde_json.specs.View.{view, items_view};
 ghost use Rattle.serde_json.specs.Find.{as_array};
-ghost use Rattle.charging_json.specs.Fields.{given, optional, list_of, or_empty};
+ghost use Rattle.json_objects.specs.Fields.{given, optional, list_of, or_empty};
 ghost use Rattle.charging_json.specs.Triggers.{sound_kind};
 ghost use Rattle.charging_json.specs.Usage.{rest_of, directions, volumes_of, usage_times, from_moment, times_of, counts_of, used_of, short, short_list_of};
 
-use crate::fields::{given, needed_number_32, optional_number, optional_number_32, optional_time};
 use crate::triggers::kinds;
+use json_objects::{given, needed_number_32, optional_number, optional_number_32, optional_time};
 use serde_json::Value;
 use std::alloc::{AllocError, Global};
 use units::{List, MOST_ENTRIES, Moment, Text, Used};

@@ -1,11 +1,11 @@
 ghost use Rattle.std.specs.Prelude.{◌≡◌, codes, IfOk, Some, option_map};
 ghost use Rattle.serde_json.specs.View.{view};
-ghost use Rattle.charging_json.specs.Fields.{given, optional, needed, list_of, or_empty};
+ghost use Rattle.json_objects.specs.Fields.{given, optional, needed, list_of, or_empty};
 ghost use Rattle.charging_json.specs.Rules.{rules_of};
 ghost use Rattle.charging_json.specs.Information.{code, action, last_units_of, amount, granted_of, bounds_of, info_of};
 
-use crate::fields::{given, needed_number_32, optional_number, optional_number_32, optional_time};
 use crate::rules::rules;
+use json_objects::{given, needed_number_32, optional_number, optional_number_32, optional_time};
 use serde_json::Value;
 use std::alloc::{AllocError, Global};
 use units::{Action, Amount, Code, List, Moment, TriggerRule, UnitInfo, action_named, code_named};

@@ -14,13 +14,11 @@
 //! trigger type is a line of both tables of `rules` and `triggers`.
 #![tactic(auto)]
 
-mod body;
 mod cause;
 mod container;
-mod fields;
 mod information;
+mod invocation;
 mod location;
-mod objects;
 mod reply_reader;
 mod reply_writer;
 mod request_reader;
@@ -29,9 +27,9 @@ mod rules;
 mod triggers;
 mod usage;
 
-pub use cause::{cause_by, cause_of};
+pub use cause::cause_of;
 pub use location::session_location;
 pub use reply_reader::read_reply;
-pub use reply_writer::{reply_location, reply_status, write_reply};
+pub use reply_writer::{append_reply, reply_location, reply_status, write_reply};
 pub use request_reader::read_request;
-pub use request_writer::write_request;
+pub use request_writer::{append_request, write_request};

@@ -4,18 +4,18 @@ ghost use Rattle.serde_json.specs.Find.{as_str};
 ghost use Rattle.units.specs.Answers.{IsOrNoMemory};
 ghost use Rattle.units.specs.declared.refusal.JsonRefusal.TheVariants as refusal;
 ghost use Rattle.units.specs.declared.reply.Reply.TheVariants as reply;
-ghost use Rattle.charging_json.specs.Fields.{given, number_32, time, optional, list_of, or_empty, required, allowed};
+ghost use Rattle.json_objects.specs.Fields.{given, number_32, time, optional, list_of, or_empty, required, allowed};
 ghost use Rattle.charging_json.specs.Rules.{rules_of};
 ghost use Rattle.charging_json.specs.Information.{info_of};
 ghost use Rattle.charging_json.specs.Location.{reference_of};
 ghost use Rattle.units.specs.ReplyRanges.{FitsReply};
 ghost use Rattle.charging_json.specs.Reply.{handling, result_of, failover, flat, answer_of, problem_of, reference_given, created_of, updated_of, refused_of, reply_of, reply_in};
 
-use crate::body::read_object;
-use crate::fields::{allowed, given, or_empty, owned, required, sequence_number, stamp};
 use crate::information::infos;
+use crate::invocation::{sequence_number, stamp};
 use crate::location::reference;
 use crate::rules::rules;
+use json_objects::{allowed, given, or_empty, owned, read_object, required};
 use serde_json::Value;
 use std::alloc::Global;
 use units::{

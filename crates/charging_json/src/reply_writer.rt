@@ -1,57 +1,52 @@
-ghost use Rattle.std.specs.Prelude.{◌≡◌, IfOk, Ok, Some, option_map, map};
-ghost use Rattle.serde_json.specs.View.{view, members_view};
+ghost use Rattle.std.specs.Prelude.{◌≡◌, ◌++◌, codes, IfOk, OnOk, OnErr, Ok, None, Some, [], option_map, map};
 ghost use Rattle.serde_json.specs.Written.{compact_text};
-ghost use Rattle.charging_json.specs.Body.{object_in};
+ghost use Rattle.json_objects.specs.Body.{object_in};
+ghost use Rattle.json_objects.specs.Objects.{object_of, listed};
+ghost use Rattle.json_objects.specs.ReadBack.{CanBeRead};
+ghost use Rattle.json_objects.specs.Tokens.{tokens_of, field_after, fields_after};
+ghost use Rattle.units.specs.declared.reply.Reply.TheVariants as variant;
+ghost use Rattle.units.specs.ReplyRanges.{FitsAnswer, FitsReply};
 ghost use Rattle.charging_json.specs.Reply.{reply_in};
-ghost use Rattle.units.specs.ReplyRanges.{FitsReply};
-ghost use Rattle.charging_json.specs.Written.{object_of, listed, with_fields};
 ghost use Rattle.charging_json.specs.ReplyWritten.{rule_data, octets_of, seconds_of, granted_fields, granted_data, last_units_data, bound_fields, info_data, result_data, failover_data, answer_data, problem_data, reply_text, status_of, location_of};
 
-use crate::body::write_body;
 use crate::location::session_location;
-use crate::objects::{
-    list_value, put_given, put_number, put_number_32, put_text, put_time, put_word,
-};
+use json_objects::{ObjectWriter, written_values_read_back};
 use moments::times_read_back;
-use serde_json::{Map, Value};
 use std::alloc::{AllocError, Global};
+use std::mem;
 use units::{
     Action, Amount, Answer, Handling, List, Moment, OutOfMemory, Problem, Reply, Text, TriggerRule,
     UnitInfo, name_of_action, name_of_category, name_of_code, name_of_failover, name_of_handling,
     name_of_type,
 };
 
-fn rule_value(alloc: Global, rule: &TriggerRule) -> Result<Value, AllocError>
-    ensures { IfOk result (λ v. view v ≡ rule_data rule.now) }
+fn put_rule(out: &mut ObjectWriter, rule: &TriggerRule) -> Result<(), AllocError>
+    ensures ok { OnOk result (out.new.tokens ≡ out.old.tokens ++ tokens_of (rule_data rule.now)) }
+    ensures before { out.new.before ≡ out.old.before }
 {
-    let mut members = Map::new(alloc);
-    put_number_32(&mut members, alloc, "maxNumberOfccc", rule.changes)?;
-    put_number_32(&mut members, alloc, "timeLimit", rule.seconds)?;
-    put_word(
-        &mut members,
-        alloc,
-        "triggerCategory",
-        name_of_category(rule.immediate),
-    )?;
-    put_word(
-        &mut members,
-        alloc,
-        "triggerType",
-        name_of_type(rule.trigger),
-    )?;
-    put_number(&mut members, alloc, "volumeLimit64", rule.volume)?;
-    Ok(Value::Object(members))
+    out.begin_object()?;
+    out.number_32("maxNumberOfccc", rule.changes)?;
+    out.number_32("timeLimit", rule.seconds)?;
+    out.text("triggerCategory", name_of_category(rule.immediate))?;
+    out.text("triggerType", name_of_type(rule.trigger))?;
+    out.number("volumeLimit64", rule.volume)?;
+    out.end_object()
 }
 
-fn rule_values(alloc: Global, rules: &[TriggerRule]) -> Result<Option<Value>, AllocError>
-    ensures { IfOk result (λ o. option_map view o ≡ listed (map rule_data rules.now)) }
+// The trigger rules, where there are any.
+fn put_rules(out: &mut ObjectWriter, rules: &[TriggerRule]) -> Result<(), AllocError>
+    ensures ok { OnOk result (out.new.tokens ≡ field_after out.old.tokens (codes "triggers") (listed (map rule_data rules.now))) }
+    ensures before { out.new.before ≡ out.old.before }
 {
-    let mut values = Vec::new(alloc);
-    for rule in rules {
-        let value = rule_value(alloc, rule)?;
-        values.push(value)?;
+    if rules.is_empty() {
+        return Ok(());
     }
-    Ok(list_value(values))
+    out.name("triggers")?;
+    out.begin_list()?;
+    for rule in rules {
+        put_rule(out, rule)?;
+    }
+    out.end_list()
 }
 
 fn octets_of(grant: Option<Amount>) -> Option<u64>
@@ -74,181 +69,201 @@ fn seconds_of(grant: Option<Amount>) -> Option<u32>
     }
 }
 
-fn granted_members(
-    alloc: Global,
+fn put_granted_object(
+    out: &mut ObjectWriter,
     grant: Option<Amount>,
     switch: Option<Moment>,
-) -> Result<Value, AllocError>
-    ensures { IfOk result (λ v. view v ≡ object_of (granted_fields grant switch)) }
+) -> Result<(), AllocError>
+    ensures ok { OnOk result (out.new.tokens ≡ out.old.tokens ++ tokens_of (object_of (granted_fields grant switch))) }
+    ensures before { out.new.before ≡ out.old.before }
 {
-    let mut members = Map::new(alloc);
-    put_time(&mut members, alloc, "tariffTimeChange", switch)?;
-    put_number_32(&mut members, alloc, "time", seconds_of(grant))?;
-    put_number(&mut members, alloc, "totalVolume", octets_of(grant))?;
-    Ok(Value::Object(members))
+    out.begin_object()?;
+    out.time("tariffTimeChange", switch)?;
+    out.number_32("time", seconds_of(grant))?;
+    out.number("totalVolume", octets_of(grant))?;
+    out.end_object()
 }
 
-fn granted_value(
-    alloc: Global,
+// The granted unit, where there is an amount or a tariff time change.
+#[tactic(auto, unfolding(json_objects::specs::Tokens::field_after))]
+fn put_granted(
+    out: &mut ObjectWriter,
     grant: Option<Amount>,
     switch: Option<Moment>,
-) -> Result<Option<Value>, AllocError>
-    ensures { IfOk result (λ o. option_map view o ≡ granted_data grant switch) }
+) -> Result<(), AllocError>
+    ensures ok { OnOk result (out.new.tokens ≡ field_after out.old.tokens (codes "grantedUnit") (granted_data grant switch)) }
+    ensures before { out.new.before ≡ out.old.before }
 {
-    match (grant, switch) {
-        (None, None) => Ok(None),
-        (None, Some(switch)) => Ok(Some(granted_members(alloc, None, Some(switch))?)),
-        (Some(grant), switch) => Ok(Some(granted_members(alloc, Some(grant), switch)?)),
+    if grant.is_none() && switch.is_none() {
+        return Ok(());
     }
+    out.name("grantedUnit")?;
+    put_granted_object(out, grant, switch)
 }
 
-fn last_units_value(alloc: Global, last_units: Option<Action>) -> Result<Option<Value>, AllocError>
-    ensures { IfOk result (λ o. option_map view o ≡ option_map last_units_data last_units) }
+fn put_action(out: &mut ObjectWriter, action: Action) -> Result<(), AllocError>
+    ensures ok { OnOk result (out.new.tokens ≡ out.old.tokens ++ tokens_of (last_units_data action)) }
+    ensures before { out.new.before ≡ out.old.before }
+{
+    out.begin_object()?;
+    out.text("finalUnitAction", name_of_action(action))?;
+    out.end_object()
+}
+
+// The final unit indication, where there is one.
+#[tactic(auto, unfolding(json_objects::specs::Tokens::field_after))]
+fn put_last_units(out: &mut ObjectWriter, last_units: Option<Action>) -> Result<(), AllocError>
+    ensures ok { OnOk result (out.new.tokens ≡ field_after out.old.tokens (codes "finalUnitIndication") (option_map last_units_data last_units)) }
+    ensures before { out.new.before ≡ out.old.before }
 {
     match last_units {
         Some(action) => {
-            let mut members = Map::new(alloc);
-            put_word(
-                &mut members,
-                alloc,
-                "finalUnitAction",
-                name_of_action(action),
-            )?;
-            Ok(Some(Value::Object(members)))
+            out.name("finalUnitIndication")?;
+            put_action(out, action)
         }
-        None => Ok(None),
+        None => Ok(()),
     }
 }
 
-fn put_bounds(
-    members: &mut Map<String, Value>,
-    alloc: Global,
-    info: &UnitInfo,
-    triggers: Option<Value>,
-) -> Result<(), AllocError>
-    ensures { IfOk result (λ _. members_view members.new.entries ≡ with_fields (bound_fields (option_map view triggers) info.now) (members_view members.old.entries)) }
+// What bounds the use of a grant, and the triggers of its rating group.
+fn put_bounds(out: &mut ObjectWriter, info: &UnitInfo) -> Result<(), AllocError>
+    ensures ok { OnOk result (out.new.tokens ≡ fields_after out.old.tokens (bound_fields (listed (map rule_data info.now.triggers)) info.now)) }
+    ensures before { out.new.before ≡ out.old.before }
 {
-    put_number_32(members, alloc, "timeQuotaThreshold", info.time_threshold)?;
-    put_given(members, alloc, "triggers", triggers)?;
-    put_number_32(members, alloc, "validityTime", info.validity)?;
-    put_number(
-        members,
-        alloc,
-        "volumeQuotaThreshold",
-        info.volume_threshold,
-    )
+    out.number_32("timeQuotaThreshold", info.time_threshold)?;
+    put_rules(out, info.triggers.as_slice())?;
+    out.number_32("validityTime", info.validity)?;
+    out.number("volumeQuotaThreshold", info.volume_threshold)
 }
 
-fn info_value(alloc: Global, info: &UnitInfo) -> Result<Value, AllocError>
-    ensures { IfOk result (λ v. view v ≡ info_data info.now) }
+fn put_info(out: &mut ObjectWriter, info: &UnitInfo) -> Result<(), AllocError>
+    ensures ok { OnOk result (out.new.tokens ≡ out.old.tokens ++ tokens_of (info_data info.now)) }
+    ensures before { out.new.before ≡ out.old.before }
 {
-    let last_units = last_units_value(alloc, info.last_units)?;
-    let granted = granted_value(alloc, info.grant, info.switch)?;
-    let triggers = rule_values(alloc, info.triggers.as_slice())?;
-    let mut members = Map::new(alloc);
-    put_given(&mut members, alloc, "finalUnitIndication", last_units)?;
-    put_given(&mut members, alloc, "grantedUnit", granted)?;
-    put_number_32(&mut members, alloc, "quotaHoldingTime", info.holding)?;
-    put_number_32(&mut members, alloc, "ratingGroup", Some(info.group))?;
-    put_word(&mut members, alloc, "resultCode", name_of_code(info.code))?;
-    put_bounds(&mut members, alloc, info, triggers)?;
-    Ok(Value::Object(members))
+    out.begin_object()?;
+    put_last_units(out, info.last_units)?;
+    put_granted(out, info.grant, info.switch)?;
+    out.number_32("quotaHoldingTime", info.holding)?;
+    out.number_32("ratingGroup", Some(info.group))?;
+    out.text("resultCode", name_of_code(info.code))?;
+    put_bounds(out, info)?;
+    out.end_object()
 }
 
-fn info_values(alloc: Global, infos: &[UnitInfo]) -> Result<Option<Value>, AllocError>
-    ensures { IfOk result (λ o. option_map view o ≡ listed (map info_data infos.now)) }
+// The entries for rating groups, where there are any.
+fn put_infos(out: &mut ObjectWriter, infos: &[UnitInfo]) -> Result<(), AllocError>
+    ensures ok { OnOk result (out.new.tokens ≡ field_after out.old.tokens (codes "multipleUnitInformation") (listed (map info_data infos.now))) }
+    ensures before { out.new.before ≡ out.old.before }
 {
-    let mut values = Vec::new(alloc);
+    if infos.is_empty() {
+        return Ok(());
+    }
+    out.name("multipleUnitInformation")?;
+    out.begin_list()?;
     for info in infos {
-        let value = info_value(alloc, info)?;
-        values.push(value)?;
+        put_info(out, info)?;
     }
-    Ok(list_value(values))
+    out.end_list()
 }
 
-fn result_value(alloc: Global, handling: Option<Handling>) -> Result<Option<Value>, AllocError>
-    ensures { IfOk result (λ o. option_map view o ≡ option_map result_data handling) }
+fn put_handling(out: &mut ObjectWriter, handling: Handling) -> Result<(), AllocError>
+    ensures ok { OnOk result (out.new.tokens ≡ out.old.tokens ++ tokens_of (result_data handling)) }
+    ensures before { out.new.before ≡ out.old.before }
+{
+    out.begin_object()?;
+    out.text("failureHandling", name_of_handling(handling))?;
+    out.end_object()
+}
+
+// The invocation result, where there is a failure handling.
+#[tactic(auto, unfolding(json_objects::specs::Tokens::field_after))]
+fn put_result(out: &mut ObjectWriter, handling: Option<Handling>) -> Result<(), AllocError>
+    ensures ok { OnOk result (out.new.tokens ≡ field_after out.old.tokens (codes "invocationResult") (option_map result_data handling)) }
+    ensures before { out.new.before ≡ out.old.before }
 {
     match handling {
         Some(handling) => {
-            let mut members = Map::new(alloc);
-            put_word(
-                &mut members,
-                alloc,
-                "failureHandling",
-                name_of_handling(handling),
-            )?;
-            Ok(Some(Value::Object(members)))
+            out.name("invocationResult")?;
+            put_handling(out, handling)
         }
-        None => Ok(None),
+        None => Ok(()),
     }
 }
 
-fn failover_value(alloc: Global, failover: Option<bool>) -> Result<Option<Value>, AllocError>
-    ensures { IfOk result (λ o. option_map view o ≡ option_map failover_data failover) }
+// Whether session failover is supported, where that is said.
+#[tactic(auto, unfolding(json_objects::specs::Tokens::field_after))]
+fn put_failover(out: &mut ObjectWriter, failover: Option<bool>) -> Result<(), AllocError>
+    ensures ok { OnOk result (out.new.tokens ≡ field_after out.old.tokens (codes "sessionFailover") (option_map failover_data failover)) }
+    ensures before { out.new.before ≡ out.old.before }
 {
     match failover {
-        Some(supported) => Ok(Some(Value::try_from_str(alloc, name_of_failover(supported))?)),
-        None => Ok(None),
+        Some(supported) => out.text("sessionFailover", name_of_failover(supported)),
+        None => Ok(()),
     }
 }
 
-fn answer_value(alloc: Global, answer: &Answer) -> Result<Value, AllocError>
-    ensures { IfOk result (λ v. view v ≡ answer_data answer.now) }
+fn put_answer(out: &mut ObjectWriter, answer: &Answer) -> Result<(), AllocError>
+    ensures ok { OnOk result (out.new.tokens ≡ out.old.tokens ++ tokens_of (answer_data answer.now)) }
+    ensures before { out.new.before ≡ out.old.before }
 {
-    let handling = result_value(alloc, answer.handling)?;
-    let units = info_values(alloc, answer.units.as_slice())?;
-    let failover = failover_value(alloc, answer.failover)?;
-    let triggers = rule_values(alloc, answer.triggers.as_slice())?;
-    let mut members = Map::new(alloc);
-    put_given(&mut members, alloc, "invocationResult", handling)?;
-    put_number_32(
-        &mut members,
-        alloc,
-        "invocationSequenceNumber",
-        Some(answer.number),
-    )?;
-    put_time(
-        &mut members,
-        alloc,
-        "invocationTimeStamp",
-        Some(answer.stamp),
-    )?;
-    put_given(&mut members, alloc, "multipleUnitInformation", units)?;
-    put_given(&mut members, alloc, "sessionFailover", failover)?;
-    put_given(&mut members, alloc, "triggers", triggers)?;
-    Ok(Value::Object(members))
+    out.begin_object()?;
+    put_result(out, answer.handling)?;
+    out.number_32("invocationSequenceNumber", Some(answer.number))?;
+    out.time("invocationTimeStamp", Some(answer.stamp))?;
+    put_infos(out, answer.units.as_slice())?;
+    put_failover(out, answer.failover)?;
+    put_rules(out, answer.triggers.as_slice())?;
+    out.end_object()
 }
 
-fn problem_value(alloc: Global, problem: &Problem) -> Result<Value, AllocError>
-    ensures { IfOk result (λ v. view v ≡ problem_data problem.now) }
+fn put_problem(out: &mut ObjectWriter, problem: &Problem) -> Result<(), AllocError>
+    ensures ok { OnOk result (out.new.tokens ≡ out.old.tokens ++ tokens_of (problem_data problem.now)) }
+    ensures before { out.new.before ≡ out.old.before }
+    ensures readable { OnOk result (CanBeRead 1 (problem_data problem.now)) }
 {
-    let mut members = Map::new(alloc);
-    put_word(&mut members, alloc, "cause", problem.cause.as_str())?;
-    put_text(&mut members, alloc, "detail", &problem.detail)?;
-    put_number_32(
-        &mut members,
-        alloc,
-        "status",
-        Some(u32::from(problem.status)),
-    )?;
-    Ok(Value::Object(members))
+    written_values_read_back();
+    out.begin_object()?;
+    out.text("cause", problem.cause.as_str())?;
+    out.text_if("detail", &problem.detail)?;
+    out.number_32("status", Some(u32::from(problem.status)))?;
+    out.end_object()
 }
 
-fn write_answer(alloc: Global, answer: &Answer) -> Result<List<u8>, OutOfMemory>
-    ensures text { IfOk result (λ b. b ≡ compact_text (answer_data answer.now)) }
-    ensures body { IfOk result (λ b. object_in b ≡ Some (answer_data answer.now)) }
+fn append_answer(alloc: Global, out: &mut List<u8>, answer: &Answer) -> Result<(), OutOfMemory>
+    ensures text { OnOk result (out.new ≡ out.old ++ compact_text (answer_data answer.now)) }
+    ensures err { OnErr result (out.new ≡ out.old) }
+    ensures body { FitsAnswer answer.now → OnOk result (object_in (compact_text (answer_data answer.now)) ≡ Some (answer_data answer.now)) }
 {
-    let value = answer_value(alloc, answer)?;
-    write_body(alloc, &value)
+    written_values_read_back();
+    let mut writer = ObjectWriter::new(mem::replace(out, List::new(alloc)));
+    match put_answer(&mut writer, answer) {
+        Ok(()) => {
+            *out = writer.into_bytes();
+            Ok(())
+        }
+        Err(_) => {
+            *out = writer.discard();
+            Err(OutOfMemory)
+        }
+    }
 }
 
-fn write_problem(alloc: Global, problem: &Problem) -> Result<List<u8>, OutOfMemory>
-    ensures text { IfOk result (λ b. b ≡ compact_text (problem_data problem.now)) }
-    ensures body { IfOk result (λ b. object_in b ≡ Some (problem_data problem.now)) }
+fn append_problem(alloc: Global, out: &mut List<u8>, problem: &Problem) -> Result<(), OutOfMemory>
+    ensures text { OnOk result (out.new ≡ out.old ++ compact_text (problem_data problem.now)) }
+    ensures err { OnErr result (out.new ≡ out.old) }
+    ensures body { OnOk result (object_in (compact_text (problem_data problem.now)) ≡ Some (problem_data problem.now)) }
 {
-    let value = problem_value(alloc, problem)?;
-    write_body(alloc, &value)
+    let mut writer = ObjectWriter::new(mem::replace(out, List::new(alloc)));
+    match put_problem(&mut writer, problem) {
+        Ok(()) => {
+            *out = writer.into_bytes();
+            Ok(())
+        }
+        Err(_) => {
+            *out = writer.discard();
+            Err(OutOfMemory)
+        }
+    }
 }
 
 /// The status of a reply's response.
@@ -265,7 +280,8 @@ pub fn reply_status(reply: &Reply) -> u16
 
 /// The Location of a reply's response, which only a session that was made has (TS 32.291, 6.1.3.2).
 pub fn reply_location(alloc: Global, reply: &Reply) -> Result<Option<Text>, OutOfMemory>
-    ensures { IfOk result (λ o. o ≡ location_of reply.now) }
+    ensures location { IfOk result (λ o. o ≡ location_of reply.now) }
+    ensures none { location_of reply.now ≡ None → result ≡ Ok None }
 {
     match reply {
         Reply::Created { reference, .. } => Ok(Some(session_location(alloc, *reference)?)),
@@ -275,19 +291,32 @@ pub fn reply_location(alloc: Global, reply: &Reply) -> Result<Option<Text>, OutO
     }
 }
 
-/// The body of a reply: compact, the keys ascending, absent fields and empty lists left out; a session that was
-/// released has an empty one.
+/// Appends the body of a reply to a buffer: compact, the keys ascending, absent fields and empty lists left out; a
+/// session that was released has an empty one. Where memory is wanting the buffer is as before.
 ///
 /// A reply in the ranges of its format reads back, with its status and its Location, as the same reply.
-pub fn write_reply(alloc: Global, reply: &Reply) -> Result<List<u8>, OutOfMemory>
-    ensures text { IfOk result (λ b. b ≡ reply_text reply.now) }
-    ensures reads_back { FitsReply reply.now → IfOk result (λ b. reply_in (status_of reply.now) (location_of reply.now) b ≡ Ok reply.now) }
+pub fn append_reply(alloc: Global, out: &mut List<u8>, reply: &Reply) -> Result<(), OutOfMemory>
+    ensures text { OnOk result (out.new ≡ out.old ++ reply_text reply.now) }
+    ensures err { OnErr result (out.new ≡ out.old) }
+    ensures released { reply.now ≡ variant.Released → result ≡ Ok tt }
+    ensures reads_back { FitsReply reply.now → OnOk result (reply_in (status_of reply.now) (location_of reply.now) (reply_text reply.now) ≡ Ok reply.now) }
 {
     times_read_back();
     match reply {
-        Reply::Created { answer, .. } => write_answer(alloc, answer),
-        Reply::Updated { answer } => write_answer(alloc, answer),
-        Reply::Released => Ok(List::new(alloc)),
-        Reply::Refused { problem } => write_problem(alloc, problem),
+        Reply::Created { answer, .. } => append_answer(alloc, out, answer),
+        Reply::Updated { answer } => append_answer(alloc, out, answer),
+        Reply::Released => Ok(()),
+        Reply::Refused { problem } => append_problem(alloc, out, problem),
     }
+}
+
+/// The body of a reply, as `append_reply` writes it.
+pub fn write_reply(alloc: Global, reply: &Reply) -> Result<List<u8>, OutOfMemory>
+    ensures text { IfOk result (λ b. b ≡ reply_text reply.now) }
+    ensures released { reply.now ≡ variant.Released → result ≡ Ok [] }
+    ensures reads_back { FitsReply reply.now → IfOk result (λ b. reply_in (status_of reply.now) (location_of reply.now) b ≡ Ok reply.now) }
+{
+    let mut out = List::new(alloc);
+    append_reply(alloc, &mut out, reply)?;
+    Ok(out)
 }

@@ -4,19 +4,19 @@ ghost use Rattle.serde_json.specs.View.{view};
 ghost use Rattle.serde_json.specs.Find.{as_bool};
 ghost use Rattle.units.specs.Answers.{IsOrNoMemory};
 ghost use Rattle.units.specs.declared.refusal.JsonRefusal.TheVariants as refusal;
-ghost use Rattle.charging_json.specs.Fields.{given, number_32, time, name, text_that, list_of, or_empty, required, allowed, required_if};
+ghost use Rattle.json_objects.specs.Fields.{given, number_32, time, name, text_that, list_of, or_empty, required, allowed, required_if};
 ghost use Rattle.charging_json.specs.Triggers.{sound_kind};
 ghost use Rattle.charging_json.specs.Usage.{entry_of, short_list_of};
 ghost use Rattle.units.specs.Names.{is_visible, is_address};
 ghost use Rattle.units.specs.Ranges.{FitsRequest, is_create};
 ghost use Rattle.charging_json.specs.Request.{consumer_of, consumer_place, charging_id_place, request_of, request_in};
 
-use crate::body::read_object;
-use crate::fields::{
-    allowed, given, name, number_32, or_empty, owned, required, required_if, sequence_number, stamp,
-};
+use crate::invocation::{sequence_number, stamp};
 use crate::triggers::kinds;
 use crate::usage::entries;
+use json_objects::{
+    allowed, given, name, number_32, or_empty, owned, read_object, required, required_if,
+};
 use serde_json::Value;
 use std::alloc::{AllocError, Global};
 use units::{JsonRefusal, List, Moment, Operation, Request, Text, UnitUsage};

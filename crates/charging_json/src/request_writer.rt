@@ -1,185 +1,220 @@
-ghost use Rattle.std.specs.Prelude.{◌≡◌, ◌≤◌, ◌+◌, ◌^◌, min, length, IfOk, Ok, Some, option_map, map};
-ghost use Rattle.serde_json.specs.View.{view, members_view};
+ghost use Rattle.std.specs.Prelude.{◌≡◌, ◌≤◌, ◌+◌, ◌^◌, ◌++◌, codes, min, length, IfOk, OnOk, OnErr, Ok, Some, option_map, map};
 ghost use Rattle.serde_json.specs.Written.{compact_text};
+ghost use Rattle.json_objects.specs.Objects.{listed};
+ghost use Rattle.json_objects.specs.Tokens.{tokens_of, field_after, fields_after};
 ghost use Rattle.units.specs.Ranges.{FitsRequest};
 ghost use Rattle.charging_json.specs.Request.{request_in};
-ghost use Rattle.charging_json.specs.Written.{listed, with_fields};
 ghost use Rattle.charging_json.specs.RequestWritten.{trigger_data, total_of, span_data, used_data, ask_data, usage_data, consumer_data, again_data, invocation_fields, request_data, container_count};
 
-use crate::body::write_body;
-use crate::objects::{
-    list_value, put_given, put_number, put_number_32, put_text, put_time, put_word,
-};
+use json_objects::{ObjectWriter, written_values_read_back};
 use moments::times_read_back;
-use serde_json::{Map, Value};
 use std::alloc::{AllocError, Global};
+use std::mem;
 use units::{Ask, List, OutOfMemory, Request, Text, UnitUsage, Used, name_of_category};
 
-fn trigger_value(alloc: Global, kind: &Text) -> Result<Value, AllocError>
-    ensures { IfOk result (λ v. view v ≡ trigger_data kind.now) }
+fn put_trigger(out: &mut ObjectWriter, kind: &Text) -> Result<(), AllocError>
+    ensures ok { OnOk result (out.new.tokens ≡ out.old.tokens ++ tokens_of (trigger_data kind.now)) }
+    ensures before { out.new.before ≡ out.old.before }
 {
-    let mut members = Map::new(alloc);
-    put_word(
-        &mut members,
-        alloc,
-        "triggerCategory",
-        name_of_category(true),
-    )?;
-    put_word(&mut members, alloc, "triggerType", kind.as_str())?;
-    Ok(Value::Object(members))
+    out.begin_object()?;
+    out.text("triggerCategory", name_of_category(true))?;
+    out.text("triggerType", kind.as_str())?;
+    out.end_object()
 }
 
-fn trigger_values(alloc: Global, kinds: &[Text]) -> Result<Option<Value>, AllocError>
-    ensures { IfOk result (λ o. option_map view o ≡ listed (map trigger_data kinds.now)) }
+// The triggers, where there are any.
+fn put_triggers(out: &mut ObjectWriter, kinds: &[Text]) -> Result<(), AllocError>
+    ensures ok { OnOk result (out.new.tokens ≡ field_after out.old.tokens (codes "triggers") (listed (map trigger_data kinds.now))) }
+    ensures before { out.new.before ≡ out.old.before }
 {
-    let mut values = Vec::new(alloc);
+    if kinds.is_empty() {
+        return Ok(());
+    }
+    out.name("triggers")?;
+    out.begin_list()?;
     for kind in kinds {
-        let value = trigger_value(alloc, kind)?;
-        values.push(value)?;
+        put_trigger(out, kind)?;
     }
-    Ok(list_value(values))
+    out.end_list()
 }
 
-fn span_value(alloc: Global, used: &Used) -> Result<Value, AllocError>
-    ensures { IfOk result (λ v. view v ≡ span_data used.now) }
+// The times of first and last usage.
+fn put_span(out: &mut ObjectWriter, used: &Used) -> Result<(), AllocError>
+    ensures ok { OnOk result (out.new.tokens ≡ field_after out.old.tokens (codes "pDUContainerInformation") (Some (span_data used.now))) }
+    ensures before { out.new.before ≡ out.old.before }
 {
-    let mut members = Map::new(alloc);
-    put_time(&mut members, alloc, "timeofFirstUsage", Some(used.first))?;
-    put_time(&mut members, alloc, "timeofLastUsage", Some(used.last))?;
-    Ok(Value::Object(members))
+    out.name("pDUContainerInformation")?;
+    out.begin_object()?;
+    out.time("timeofFirstUsage", Some(used.first))?;
+    out.time("timeofLastUsage", Some(used.last))?;
+    out.end_object()
 }
 
-fn used_value(alloc: Global, used: &Used) -> Result<Value, AllocError>
-    ensures { IfOk result (λ v. view v ≡ used_data used.now) }
+fn put_used(out: &mut ObjectWriter, used: &Used) -> Result<(), AllocError>
+    ensures ok { OnOk result (out.new.tokens ≡ out.old.tokens ++ tokens_of (used_data used.now)) }
+    ensures before { out.new.before ≡ out.old.before }
 {
-    let span = span_value(alloc, used)?;
-    let triggers = trigger_values(alloc, used.triggers.as_slice())?;
     let total = used.up.saturating_add(used.down);
-    let mut members = Map::new(alloc);
-    put_number(&mut members, alloc, "downlinkVolume", Some(used.down))?;
-    put_number_32(&mut members, alloc, "localSequenceNumber", Some(used.lsn))?;
-    put_given(&mut members, alloc, "pDUContainerInformation", Some(span))?;
-    put_number_32(&mut members, alloc, "time", Some(used.seconds))?;
-    put_number(&mut members, alloc, "totalVolume", Some(total))?;
-    put_time(&mut members, alloc, "triggerTimestamp", Some(used.moment))?;
-    put_given(&mut members, alloc, "triggers", triggers)?;
-    put_number(&mut members, alloc, "uplinkVolume", Some(used.up))?;
-    Ok(Value::Object(members))
+    out.begin_object()?;
+    out.number("downlinkVolume", Some(used.down))?;
+    out.number_32("localSequenceNumber", Some(used.lsn))?;
+    put_span(out, used)?;
+    out.number_32("time", Some(used.seconds))?;
+    out.number("totalVolume", Some(total))?;
+    out.time("triggerTimestamp", Some(used.moment))?;
+    put_triggers(out, used.triggers.as_slice())?;
+    out.number("uplinkVolume", Some(used.up))?;
+    out.end_object()
 }
 
-fn used_values(alloc: Global, used: &[Used]) -> Result<Option<Value>, AllocError>
-    ensures { IfOk result (λ o. option_map view o ≡ listed (map used_data used.now)) }
+// The used unit containers, where there are any.
+fn put_containers(out: &mut ObjectWriter, used: &[Used]) -> Result<(), AllocError>
+    ensures ok { OnOk result (out.new.tokens ≡ field_after out.old.tokens (codes "usedUnitContainer") (listed (map used_data used.now))) }
+    ensures before { out.new.before ≡ out.old.before }
 {
-    let mut values = Vec::new(alloc);
-    for container in used {
-        let value = used_value(alloc, container)?;
-        values.push(value)?;
+    if used.is_empty() {
+        return Ok(());
     }
-    Ok(list_value(values))
+    out.name("usedUnitContainer")?;
+    out.begin_list()?;
+    for container in used {
+        put_used(out, container)?;
+    }
+    out.end_list()
 }
 
-fn ask_value(alloc: Global, ask: &Ask) -> Result<Value, AllocError>
-    ensures { IfOk result (λ v. view v ≡ ask_data ask.now) }
+fn put_units(out: &mut ObjectWriter, ask: &Ask) -> Result<(), AllocError>
+    ensures ok { OnOk result (out.new.tokens ≡ out.old.tokens ++ tokens_of (ask_data ask.now)) }
+    ensures before { out.new.before ≡ out.old.before }
 {
-    let mut members = Map::new(alloc);
-    put_number_32(&mut members, alloc, "time", ask.seconds)?;
-    put_number(&mut members, alloc, "totalVolume", ask.volume)?;
-    Ok(Value::Object(members))
+    out.begin_object()?;
+    out.number_32("time", ask.seconds)?;
+    out.number("totalVolume", ask.volume)?;
+    out.end_object()
 }
 
-fn optional_ask(alloc: Global, ask: &Option<Ask>) -> Result<Option<Value>, AllocError>
-    ensures { IfOk result (λ o. option_map view o ≡ option_map ask_data ask.now) }
+// The requested unit, where there is one.
+#[tactic(auto, unfolding(json_objects::specs::Tokens::field_after))]
+fn put_ask(out: &mut ObjectWriter, ask: &Option<Ask>) -> Result<(), AllocError>
+    ensures ok { OnOk result (out.new.tokens ≡ field_after out.old.tokens (codes "requestedUnit") (option_map ask_data ask.now)) }
+    ensures before { out.new.before ≡ out.old.before }
 {
     match ask {
-        Some(ask) => Ok(Some(ask_value(alloc, ask)?)),
-        None => Ok(None),
+        Some(ask) => {
+            out.name("requestedUnit")?;
+            put_units(out, ask)
+        }
+        None => Ok(()),
     }
 }
 
-fn usage_value(alloc: Global, usage: &UnitUsage) -> Result<Value, AllocError>
-    ensures { IfOk result (λ v. view v ≡ usage_data usage.now) }
+fn put_usage(out: &mut ObjectWriter, usage: &UnitUsage) -> Result<(), AllocError>
+    ensures ok { OnOk result (out.new.tokens ≡ out.old.tokens ++ tokens_of (usage_data usage.now)) }
+    ensures before { out.new.before ≡ out.old.before }
 {
-    let ask = optional_ask(alloc, &usage.ask)?;
-    let used = used_values(alloc, usage.used.as_slice())?;
-    let mut members = Map::new(alloc);
-    put_number_32(&mut members, alloc, "ratingGroup", Some(usage.group))?;
-    put_given(&mut members, alloc, "requestedUnit", ask)?;
-    put_given(&mut members, alloc, "usedUnitContainer", used)?;
-    Ok(Value::Object(members))
+    out.begin_object()?;
+    out.number_32("ratingGroup", Some(usage.group))?;
+    put_ask(out, &usage.ask)?;
+    put_containers(out, usage.used.as_slice())?;
+    out.end_object()
 }
 
-fn usage_values(alloc: Global, usage: &[UnitUsage]) -> Result<Option<Value>, AllocError>
-    ensures { IfOk result (λ o. option_map view o ≡ listed (map usage_data usage.now)) }
+// The multiple unit usage, where there is any.
+fn put_entries(out: &mut ObjectWriter, usage: &[UnitUsage]) -> Result<(), AllocError>
+    ensures ok { OnOk result (out.new.tokens ≡ field_after out.old.tokens (codes "multipleUnitUsage") (listed (map usage_data usage.now))) }
+    ensures before { out.new.before ≡ out.old.before }
 {
-    let mut values = Vec::new(alloc);
+    if usage.is_empty() {
+        return Ok(());
+    }
+    out.name("multipleUnitUsage")?;
+    out.begin_list()?;
     for entry in usage {
-        let value = usage_value(alloc, entry)?;
-        values.push(value)?;
+        put_usage(out, entry)?;
     }
-    Ok(list_value(values))
+    out.end_list()
 }
 
-fn consumer_value(alloc: Global, name: &Text) -> Result<Value, AllocError>
-    ensures { IfOk result (λ v. view v ≡ consumer_data name.now) }
+// The consumer, which is an SMF.
+fn put_consumer(out: &mut ObjectWriter, name: &Text) -> Result<(), AllocError>
+    ensures ok { OnOk result (out.new.tokens ≡ field_after out.old.tokens (codes "nfConsumerIdentification") (Some (consumer_data name.now))) }
+    ensures before { out.new.before ≡ out.old.before }
 {
-    let mut members = Map::new(alloc);
-    put_word(&mut members, alloc, "nFName", name.as_str())?;
-    put_word(&mut members, alloc, "nodeFunctionality", "SMF")?;
-    Ok(Value::Object(members))
+    out.name("nfConsumerIdentification")?;
+    out.begin_object()?;
+    out.text("nFName", name.as_str())?;
+    out.text("nodeFunctionality", "SMF")?;
+    out.end_object()
 }
 
-fn again_value(again: bool) -> Option<Value>
-    ensures { option_map view result ≡ again_data again }
+// The retransmission indicator, where it is set.
+#[tactic(auto, unfolding(json_objects::specs::Tokens::field_after))]
+fn put_again(out: &mut ObjectWriter, again: bool) -> Result<(), AllocError>
+    ensures ok { OnOk result (out.new.tokens ≡ field_after out.old.tokens (codes "retransmissionIndicator") (again_data again)) }
+    ensures before { out.new.before ≡ out.old.before }
 {
-    if again { Some(Value::Bool(true)) } else { None }
+    if again {
+        out.boolean("retransmissionIndicator", true)
+    } else {
+        Ok(())
+    }
 }
 
-fn put_invocation(
-    members: &mut Map<String, Value>,
+fn put_invocation(out: &mut ObjectWriter, request: &Request) -> Result<(), AllocError>
+    ensures ok { OnOk result (out.new.tokens ≡ fields_after out.old.tokens (invocation_fields request.now)) }
+    ensures before { out.new.before ≡ out.old.before }
+{
+    out.number_32("chargingId", request.charging_id)?;
+    out.number_32("invocationSequenceNumber", Some(request.number))?;
+    out.time("invocationTimeStamp", Some(request.stamp))
+}
+
+fn put_request(out: &mut ObjectWriter, request: &Request) -> Result<(), AllocError>
+    ensures ok { OnOk result (out.new.tokens ≡ out.old.tokens ++ tokens_of (request_data request.now)) }
+    ensures before { out.new.before ≡ out.old.before }
+{
+    out.begin_object()?;
+    put_invocation(out, request)?;
+    put_entries(out, request.usage.as_slice())?;
+    put_consumer(out, &request.consumer)?;
+    out.text_if("notifyUri", &request.notify)?;
+    put_again(out, request.again)?;
+    out.text_if("subscriberIdentifier", &request.subscriber)?;
+    put_triggers(out, request.triggers.as_slice())?;
+    out.end_object()
+}
+
+/// Appends a charging data request to a buffer: compact, the keys ascending, absent fields and empty lists left out.
+/// Where memory is wanting the buffer is as before.
+///
+/// The text has a byte at least for each container. A request in the ranges of its format reads back, under its
+/// operation, as the same request.
+pub fn append_request(
     alloc: Global,
+    out: &mut List<u8>,
     request: &Request,
-) -> Result<(), AllocError>
-    ensures { IfOk result (λ _. members_view members.new.entries ≡ with_fields (invocation_fields request.now) (members_view members.old.entries)) }
+) -> Result<(), OutOfMemory>
+    ensures text { OnOk result (out.new ≡ out.old ++ compact_text (request_data request.now)) }
+    ensures err { OnErr result (out.new ≡ out.old) }
+    ensures bytes { container_count request.now ≤ length (compact_text (request_data request.now)) }
+    ensures reads_back { FitsRequest request.now → OnOk result (request_in request.now.operation (compact_text (request_data request.now)) ≡ Ok request.now) }
 {
-    put_number_32(members, alloc, "chargingId", request.charging_id)?;
-    put_number_32(
-        members,
-        alloc,
-        "invocationSequenceNumber",
-        Some(request.number),
-    )?;
-    put_time(members, alloc, "invocationTimeStamp", Some(request.stamp))
+    times_read_back();
+    written_values_read_back();
+    let mut writer = ObjectWriter::new(mem::replace(out, List::new(alloc)));
+    match put_request(&mut writer, request) {
+        Ok(()) => {
+            *out = writer.into_bytes();
+            Ok(())
+        }
+        Err(_) => {
+            *out = writer.discard();
+            Err(OutOfMemory)
+        }
+    }
 }
 
-fn request_value(alloc: Global, request: &Request) -> Result<Value, AllocError>
-    ensures { IfOk result (λ v. view v ≡ request_data request.now) }
-{
-    let usage = usage_values(alloc, request.usage.as_slice())?;
-    let consumer = consumer_value(alloc, &request.consumer)?;
-    let triggers = trigger_values(alloc, request.triggers.as_slice())?;
-    let again = again_value(request.again);
-    let mut members = Map::new(alloc);
-    put_invocation(&mut members, alloc, request)?;
-    put_given(&mut members, alloc, "multipleUnitUsage", usage)?;
-    put_given(
-        &mut members,
-        alloc,
-        "nfConsumerIdentification",
-        Some(consumer),
-    )?;
-    put_text(&mut members, alloc, "notifyUri", &request.notify)?;
-    put_given(&mut members, alloc, "retransmissionIndicator", again)?;
-    put_text(
-        &mut members,
-        alloc,
-        "subscriberIdentifier",
-        &request.subscriber,
-    )?;
-    put_given(&mut members, alloc, "triggers", triggers)?;
-    Ok(Value::Object(members))
-}
-
-/// A charging data request as a body: compact, the keys ascending, absent fields and empty lists left out.
+/// A charging data request as a body, as `append_request` writes it.
 ///
 /// It has a byte at least for each container. A request in the ranges of its format reads back, under its operation, as
 /// the same request.
@@ -188,7 +223,7 @@ pub fn write_request(alloc: Global, request: &Request) -> Result<List<u8>, OutOf
     ensures bytes { IfOk result (λ b. container_count request.now ≤ length b) }
     ensures reads_back { FitsRequest request.now → IfOk result (λ b. request_in request.now.operation b ≡ Ok request.now) }
 {
-    times_read_back();
-    let value = request_value(alloc, request)?;
-    write_body(alloc, &value)
+    let mut out = List::new(alloc);
+    append_request(alloc, &mut out, request)?;
+    Ok(out)
 }

@@ -2,10 +2,10 @@ ghost use Rattle.std.specs.Prelude.{◌≡◌, codes, IfOk, Some, option_map, op
 ghost use Rattle.std.specs.List.{list_all};
 ghost use Rattle.serde_json.specs.View.{view};
 ghost use Rattle.units.specs.Names.{is_name_byte, is_kind};
-ghost use Rattle.charging_json.specs.Fields.{given, optional, list_of};
+ghost use Rattle.json_objects.specs.Fields.{given, optional, list_of};
 ghost use Rattle.charging_json.specs.Triggers.{category, kind_of, limits_of, sound_kind};
 
-use crate::fields::{given, optional_number, optional_number_32, owned};
+use json_objects::{given, optional_number, optional_number_32, owned};
 use serde_json::Value;
 use std::alloc::{AllocError, Global};
 use units::{List, Text, is_immediate};

@@ -1,10 +1,10 @@
 ghost use Rattle.std.specs.Prelude.{◌≡◌, codes, IfOk, Some, option_map, option_and_then};
 ghost use Rattle.serde_json.specs.View.{view};
-ghost use Rattle.charging_json.specs.Fields.{given, optional, or_empty};
+ghost use Rattle.json_objects.specs.Fields.{given, optional, or_empty};
 ghost use Rattle.charging_json.specs.Usage.{ask_of, containers_of, entry_of, short_list_of};
 
 use crate::container::{containers, short_list};
-use crate::fields::{given, needed_number_32, optional_number, optional_number_32};
+use json_objects::{given, needed_number_32, optional_number, optional_number_32};
 use serde_json::Value;
 use std::alloc::{AllocError, Global};
 use units::{Ask, List, Moment, UnitUsage, Used};

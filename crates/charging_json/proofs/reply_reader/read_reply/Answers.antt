@@ -4,7 +4,7 @@ use Rattle.serde_json.specs.View.{view}
 use Rattle.units.specs.ReplyRanges.{FitsReply}
 use Rattle.units.specs.declared.refusal.JsonRefusal.TheVariants as refusal
 use Rattle.charging_json.specs.Reply.{reply_of}
-use Rattle.charging_json.proofs.BodyObjects.{holds}
+use Rattle.charging_json.proofs.Held.{holds}
 use Rattle.charging_json.proofs.ReplyInRange.{value_in}
 use Rattle.charging_json.proofs.reply_reader.read_reply.Goals as goal
 

@@ -2,7 +2,7 @@ use Rattle.serde_json.specs.View.{view}
 use Rattle.units.specs.Ranges.{FitsRequest}
 use Rattle.units.specs.declared.refusal.JsonRefusal.TheVariants as refusal
 use Rattle.charging_json.specs.Request.{request_of}
-use Rattle.charging_json.proofs.BodyObjects.{holds}
+use Rattle.charging_json.proofs.Held.{holds}
 use Rattle.charging_json.proofs.InRange.{request_of_fits}
 use Rattle.charging_json.proofs.request_reader.read_request.Goals as goal
 

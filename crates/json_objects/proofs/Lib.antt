@@ -1,0 +1,4 @@
+mod BodyObjects
+mod InOrder
+mod Items
+mod ReadsBack

@@ -1,0 +1,6 @@
+pub mod Fields
+pub mod Body
+pub mod Cause
+pub mod Objects
+pub mod Tokens
+pub mod ReadBack
