@@ -1,5 +1,6 @@
 //! Turns of BER elements read, beside passes over the same octets.
-use ber::{Anything, Tape, read};
+//! Turns of reading and writing the elements of charging records, beside plain passes over their octets.
+use ber::{Anything, Tape, read, read_tlv, write_tlv};
 use std::alloc::{AllocError, Global};
 
 // A charging record of one container: 139 octets.
@@ -59,4 +60,19 @@ pub fn summed_records(alloc: Global, count: u64) -> Result<u64, AllocError> {
         sum = sum.wrapping_add(u64::from(*byte));
     }
     Ok(sum)
+}
+
+/// Writes one record that many times, each time into octets of its own, and counts the octets.
+pub fn written_records(alloc: Global, count: u64) -> Result<u64, AllocError> {
+    let Ok((record, _)) = read_tlv(alloc, &RECORD) else {
+        return Ok(0);
+    };
+    let mut octets = 0u64;
+    for _ in 0..count {
+        match write_tlv(alloc, &record) {
+            Ok(bytes) => octets = octets.saturating_add(bytes.len() as u64),
+            Err(_) => return Ok(0),
+        }
+    }
+    Ok(octets)
 }

@@ -17,7 +17,7 @@ mod wire_turns;
 
 use crate::account_turns::charges;
 use crate::disk_turns::{print_bytes, print_file};
-use crate::element_turns::{hashed_records, read_records, summed_records};
+use crate::element_turns::{hashed_records, read_records, summed_records, written_records};
 use crate::journal_turns::{append_to_file, list_of_file, print_stop};
 use crate::line_turns::parsed_lines;
 use crate::message_turns::{
@@ -82,6 +82,7 @@ fn checksum(alloc: Global, call: &str, numbers: &[u64]) -> Result<Option<u64>, O
         ("smf-meter", [sessions, turns]) => meter_turns(alloc, *sessions, *turns).map(Some),
         ("table", [keys, turns]) => table_turns(alloc, *keys, *turns).map(Some),
         ("ber-read", [count]) => Ok(Some(read_records(alloc, *count)?)),
+        ("ber-write", [count]) => Ok(Some(written_records(alloc, *count)?)),
         ("ber-hash", [count]) => Ok(Some(hashed_records(alloc, *count)?)),
         ("ber-sum", [count]) => Ok(Some(summed_records(alloc, *count)?)),
         ("wire-read", [piece, turns]) => Ok(Some(read_messages(alloc, *piece, *turns)?)),

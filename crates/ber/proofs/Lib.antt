@@ -6,3 +6,4 @@ pub mod Front
 pub mod Bounds
 pub mod Shortest
 pub mod Nodes
+pub mod Measured

@@ -4,15 +4,13 @@ use Rattle.std.specs.Prelude.{◌&&◌, IfOk}
 use Rattle.std.specs.Int.{w64, to_be_bytes}
 use Rattle.std.proofs.lemmas.Bool.{lt-ltb, le-ltb, ne_eqb, cases_lt}
 use Rattle.std.proofs.lemmas.Bool.Decides.{nat_tests}
-use Rattle.std.proofs.lemmas.List.{append-nil, at_drop_all, length-append, take_at}
+use Rattle.std.proofs.lemmas.List.{append-nil, length-append, take_at}
 use Rattle.ber.specs.Anything.{anything, one, first_element}
 use Rattle.ber.proofs.Front.{element_again, admitted}
-use Rattle.std.specs.Prelude.{OnOk}
-use Rattle.ber.specs.declared.tlv.Tlv.{Tlv}
 use Rattle.std.proofs.lemmas.Nat.{from_be_bytes-to_be_bytes_8}
 use Rattle.ber.specs.declared.tag.Tag.{Tag}
 use Rattle.ber.specs.Spelling.{starts_with, tag_of, AreDigits, IsIdentifier, value_of, IsLength, SpellsInside, SpellsAll, Spells}
-use Rattle.ber.specs.Element.{Element, primitive, constructed, Elements, none, more, elements, tag_is}
+use Rattle.ber.specs.Element.{Element, primitive, constructed, Elements, none, more, tag_is}
 use Rattle.ber.specs.Written.{octet_count, length_octets, high_octets, form_bit, identifier, inside_written, written_all, written, IsTag, IsBounded, AreBounded}
 
 -- ---- lengths
@@ -156,17 +154,6 @@ pub if_read_again : {E : Type 0} (e : Element) (result : Result (List ℕ) E) �
     → IfOk result (λ bytes. (rest : List ℕ) → length (bytes ++ rest) < 2 ^ 63 → first_element (bytes ++ rest) ≡ Ok (e, length bytes))
 if_read_again e (Ok bytes) is bounded = λ rest lt. subst (λ (z : List ℕ). first_element (z ++ rest) ≡ Ok (e, length z)) (sym is) (read_again e rest (rw is at lt) bounded)
 if_read_again e (Err f) is bounded = tt
-
-pub put_is : {E : Type 0} (tag : Tag) (e : Element) (ts : List Tlv) (i : ℕ) (bytes old new : List ℕ) (result : Result (Unit {0}) E) → e ≡ constructed tag.class tag.number (elements ts) → tag ≡ tag_is e
-    → length ts ≤ i → bytes ++ written_all (elements (drop i ts)) ≡ written_all (elements ts)
-    → OnOk result (new ≡ old ++ (identifier tag ++ (length_octets (length bytes) ++ bytes))) → OnOk result (new ≡ old ++ written e)
-put_is tag e ts i bytes old new result e-is tag-is past so_far h =
-    let rest : written_all (elements (drop i ts)) ≡ [] = at_drop_all (λ (xs : List Tlv). written_all (elements xs)) ts i past in
-    let bytes-is : bytes ≡ written_all (elements ts) = sym (append-nil bytes) ∙ ap (λ (z : List ℕ). bytes ++ z) (sym rest) ∙ so_far in
-    let id : identifier tag ≡ identifier (tag_is e) = ap identifier tag-is in
-    let inside : length_octets (length bytes) ++ bytes ≡ inside_written e = ap (λ (z : List ℕ). length_octets (length z) ++ z) bytes-is ∙ ap inside_written (sym e-is) in
-    let all : identifier tag ++ (length_octets (length bytes) ++ bytes) ≡ written e = ap (λ (z : List ℕ). z ++ (length_octets (length bytes) ++ bytes)) id ∙ ap (λ (z : List ℕ). identifier (tag_is e) ++ z) inside in
-    subst (λ (z : List ℕ). OnOk result (new ≡ old ++ z)) all h
 
 pub tag_parts : (tag : Tag) (e : Element) (class number : ℕ) (es : Elements) → e ≡ constructed class number es → tag ≡ tag_is e → e ≡ constructed tag.class tag.number es
 tag_parts tag e class number es e-is tag-is =

@@ -46,6 +46,17 @@ abbrev mutual
 abbrev pub written : Element → List ℕ
 written e = identifier (tag_is e) ++ inside_written e
 
+abbrev mutual
+  -- How many contents octets each constructed element has, one around others before those (X.690 8.1.3).
+  pub lengths_in : Element → List ℕ
+  lengths_in (primitive class number contents) = []
+  lengths_in (constructed class number inner) = length (written_all inner) ∷ lengths_all inner
+
+  -- The same of elements one after the other (X.690 8.1.3).
+  pub lengths_all : Elements → List ℕ
+  lengths_all none = []
+  lengths_all (more e es) = lengths_in e ++ lengths_all es
+
 -- A class of 0 to 3, a number below 2 ^ 32, and not universal 0 (X.690 8.1.2, 8.1.5; the bound is this product's own).
 abbrev pub IsTag : Tag → Type 0
 IsTag t = (t.class < 4) × (t.number < 2 ^ 32) × ((t.class == 0) && (t.number == 0) ≡ false)

@@ -8,7 +8,8 @@
 //!
 //! How it is built: what is read stands on a `Tape`, one list of nodes in order of their first octets, each with how
 //! many nodes behind it are within it; so reading takes memory only where the tape must grow. A `TlvRef` and a `Row`
-//! are views of a tape, and contracts see them as the elements that they are (`specs/Tape`).
+//! are views of a tape, and contracts see them as the elements that they are (`specs/Tape`). Writing finds out all
+//! lengths first (`measuring`) and then fills one buffer, without a second place for the contents of any element.
 //!
 //! Where a rule goes: on identifier and length octets into `specs/Spelling` (what is meant), `specs/Octets` (how it
 //! is read) and `identifier` or `length`; on positions into `specs/Reading` and `reading`, which alone knows them;
@@ -21,6 +22,7 @@ mod element;
 mod grammar;
 mod identifier;
 mod length;
+mod measuring;
 mod node;
 mod reading;
 mod refusal;

@@ -1,38 +1,15 @@
 //! Elements written with the fewest octets.
-ghost use Rattle.std.specs.Prelude.{◌≡◌, ◌++◌, ◌<◌, ◌≤◌, ◌^◌, length, Ok, OnOk, IfOk, List, ℕ};
+ghost use Rattle.std.specs.Prelude.{◌≡◌, ◌++◌, ◌<◌, ◌≤◌, ◌^◌, length, Ok, OnOk, IfOk, List as Listed, ℕ};
 ghost use Rattle.ber.specs.Element.{element};
 ghost use Rattle.ber.specs.Spelling.{Spells};
 ghost use Rattle.ber.specs.Anything.{first_element};
-ghost use Rattle.ber.specs.Written.{octet_count, length_octets, high_octets, identifier, written, IsBounded};
+ghost use Rattle.ber.specs.Written.{length_octets, high_octets, identifier, lengths_in, written, IsBounded};
 
+use crate::measuring::{measure, octet_count};
 use crate::tag::Tag;
 use crate::tlv::{Body, Tlv};
 use std::alloc::{AllocError, Global};
 use units::{List, OutOfMemory};
-
-// How many octets a number takes.
-fn octet_count(n: u64) -> usize
-    ensures count { result ≡ octet_count n }
-    ensures bound { result ≤ 8 }
-{
-    if n < 1 << 8 {
-        1
-    } else if n < 1 << 16 {
-        2
-    } else if n < 1 << 24 {
-        3
-    } else if n < 1 << 32 {
-        4
-    } else if n < 1 << 40 {
-        5
-    } else if n < 1 << 48 {
-        6
-    } else if n < 1 << 56 {
-        7
-    } else {
-        8
-    }
-}
 
 // Adds the shortest octets of a definite length.
 fn put_length(out: &mut Vec<u8>, n: u64) -> Result<(), AllocError>
@@ -87,40 +64,44 @@ fn put_tag(out: &mut Vec<u8>, tag: &Tag) -> Result<(), AllocError>
     put_high(out, tag.number)
 }
 
-// Adds an element with these contents.
-fn put_element(out: &mut Vec<u8>, tag: &Tag, contents: &[u8]) -> Result<(), AllocError>
-    ensures { OnOk result (out.new.items ≡ out.old.items ++ (identifier tag.now ++ (length_octets (length contents.now) ++ contents.now))) }
-{
-    put_tag(out, tag)?;
-    put_length(out, contents.len() as u64)?;
-    out.extend_from_slice(contents)?;
-    Ok(())
-}
-
-// Adds the octets of an element.
-fn put(alloc: Global, out: &mut Vec<u8>, tlv: &Tlv) -> Result<(), AllocError>
-    ensures { OnOk result (out.new.items ≡ out.old.items ++ written (element tlv.now)) }
+// Adds the octets of an element, of whose constructed elements `lengths` begins with the lengths; the other lengths.
+fn put<'l>(out: &mut Vec<u8>, lengths: &'l [usize], tlv: &Tlv) -> Result<&'l [usize], AllocError>
+    requires { (rest : Listed ℕ) × (lengths.now ≡ lengths_in (element tlv.now) ++ rest) }
+    ensures others { (rest : Listed ℕ) → lengths.now ≡ lengths_in (element tlv.now) ++ rest → IfOk result (λ left. left.now ≡ rest) }
+    ensures written { OnOk result (out.new.items ≡ out.old.items ++ written (element tlv.now)) }
 {
     let tag = tlv.tag();
+    put_tag(out, &tag)?;
     match &tlv.body {
-        Body::Primitive(contents) => put_element(out, &tag, contents.as_slice()),
+        Body::Primitive(contents) => {
+            let contents = contents.as_slice();
+            put_length(out, contents.len() as u64)?;
+            out.extend_from_slice(contents)?;
+            Ok(lengths)
+        }
         Body::Constructed(inner) => {
-            let mut contents = Vec::new(alloc);
+            let Some((length, behind)) = lengths.split_first() else {
+                unreachable!();
+            };
+            put_length(out, *length as u64)?;
+            let mut left = behind;
             for child in inner.as_slice() {
-                put(alloc, &mut contents, child)?;
+                left = put(out, left, child)?;
             }
-            put_element(out, &tag, contents.as_slice())
+            Ok(left)
         }
     }
 }
 
-// The octets, and that memory holds them.
+// The octets, in one buffer that is taken once, and that memory holds them.
 fn octets(alloc: Global, tlv: &Tlv) -> Result<List<u8>, OutOfMemory>
     ensures written { IfOk result (λ bytes. bytes ≡ written (element tlv.now)) }
     ensures bound { IfOk result (λ bytes. length bytes < 2 ^ 63) }
 {
-    let mut out = Vec::new(alloc);
-    put(alloc, &mut out, tlv)?;
+    let mut lengths = Vec::new(alloc);
+    let count = measure(&mut lengths, tlv)?;
+    let mut out = Vec::with_capacity(alloc, count)?;
+    put(&mut out, &lengths, tlv)?;
     let _length = out.as_slice().len();
     Ok(List::from_vec(out))
 }
@@ -131,7 +112,7 @@ pub fn write_tlv(alloc: Global, tlv: &Tlv) -> Result<List<u8>, OutOfMemory>
     // An element within the bounds on tags and depth is spelled so.
     ensures spells { IsBounded 16 (element tlv.now) → IfOk result (λ bytes. Spells 16 bytes (element tlv.now)) }
     // It is read back, whatever follows.
-    ensures reads_back { IsBounded 16 (element tlv.now) → IfOk result (λ bytes. (rest : List ℕ) → length (bytes ++ rest) < 2 ^ 63 → first_element (bytes ++ rest) ≡ Ok (element tlv.now, length bytes)) }
+    ensures reads_back { IsBounded 16 (element tlv.now) → IfOk result (λ bytes. (rest : Listed ℕ) → length (bytes ++ rest) < 2 ^ 63 → first_element (bytes ++ rest) ≡ Ok (element tlv.now, length bytes)) }
 {
     octets(alloc, tlv)
 }
