@@ -1,4 +1,3 @@
-//! Turns of BER elements read, beside passes over the same octets.
 //! Turns of reading and writing the elements of charging records, beside plain passes over their octets.
 use ber::{Anything, Tape, read, read_tlv, write_tlv};
 use std::alloc::{AllocError, Global};
