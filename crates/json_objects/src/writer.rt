@@ -1,5 +1,5 @@
 ghost use Rattle.std.specs.Prelude.{◌≡◌, ◌∷◌, ◌++◌, [], ℕ, List, Option, IsTrue, IsUtf8, Some, OnOk, option_map};
-ghost use Rattle.json.specs.Token.{Token, begin_object, begin_array, key};
+ghost use Rattle.json.specs.Token.{Token, begin_object, end_object, begin_array, end_array, key};
 ghost use Rattle.json.specs.Print.{print};
 ghost use Rattle.serde_json.specs.Data.{Data, array, boolean, string};
 ghost use Rattle.serde_json.specs.Read.{read, max_depth};
@@ -88,6 +88,7 @@ impl ObjectWriter {
         ensures ok { (before : List Token) (fields : List (List ℕ × Option Data))
             → self.old.tokens ≡ fields_after (before ++ begin_object ∷ []) fields → IsTrue (do_ascend fields)
             → OnOk result (self.new.tokens ≡ before ++ tokens_of (object_of fields)) }
+        ensures token { OnOk result (self.new.tokens ≡ self.old.tokens ++ end_object ∷ []) }
         ensures before { self.new.before ≡ self.old.before }
     {
         self.out.end_object()
@@ -113,6 +114,7 @@ impl ObjectWriter {
     pub fn end_list(&mut self) -> Result<(), AllocError>
         ensures ok { (before : List Token) (values : List Data) → self.old.tokens ≡ values_after (before ++ begin_array ∷ []) values
             → OnOk result (self.new.tokens ≡ before ++ tokens_of (array (items_of values))) }
+        ensures token { OnOk result (self.new.tokens ≡ self.old.tokens ++ end_array ∷ []) }
         ensures before { self.new.before ≡ self.old.before }
     {
         self.out.end_array()
