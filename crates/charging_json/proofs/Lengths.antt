@@ -16,8 +16,8 @@ use Rattle.units.specs.declared.request.UnitUsage.{UnitUsage}
 use Rattle.units.specs.declared.request.Request.{Request}
 use Rattle.json_objects.specs.Fields.{unless_null, given}
 use Rattle.json_objects.specs.Objects.{listed, with_fields}
+use Rattle.json_objects.specs.ReadBack.{ReadBackLaws}
 use Rattle.charging_json.specs.RequestWritten.{used_data, usage_data, usage_fields, request_data, request_fields, container_count}
-use Rattle.charging_json.proofs.LookUp.{look_up}
 
 -- how many objects a value has
 abbrev mutual
@@ -95,20 +95,20 @@ used_long : (used : List Used) → length used ≤ items_objects (items_of (map 
 used_long [] = omega arith
 used_long (c ∷ used) = let l = used_long used in omega (arith, l)
 
-usage_long : (usage : UnitUsage) → length usage.used ≤ objects (usage_data usage)
-usage_long usage = by usage.used (look_up (codes "usedUnitContainer") (usage_fields usage))
+usage_long : ReadBackLaws → (usage : UnitUsage) → length usage.used ≤ objects (usage_data usage)
+usage_long laws usage = by usage.used (laws.look_up (codes "usedUnitContainer") (usage_fields usage))
   where
     by : (used : List Used) → given (codes "usedUnitContainer") (usage_data usage) ≡ unless_null (listed (map used_data used)) → length used ≤ objects (usage_data usage)
     by [] e = omega arith
     by (c ∷ used) e = let l = field_less (codes "usedUnitContainer") (with_fields (usage_fields usage) no_members) (array (items_of (map used_data (c ∷ used)))) e in let m = used_long (c ∷ used) in omega (arith, l, m)
 
-usages_long : (usage : List UnitUsage) → sum_by (λ u. length u.used) usage ≤ items_objects (items_of (map usage_data usage))
-usages_long [] = omega arith
-usages_long (u ∷ usage) = let l = usage_long u in let m = usages_long usage in let s = sum_by-cons (λ (v : UnitUsage). length v.used) u usage in omega (arith, l, m, s)
+usages_long : ReadBackLaws → (usage : List UnitUsage) → sum_by (λ u. length u.used) usage ≤ items_objects (items_of (map usage_data usage))
+usages_long laws [] = omega arith
+usages_long laws (u ∷ usage) = let l = usage_long laws u in let m = usages_long laws usage in let s = sum_by-cons (λ (v : UnitUsage). length v.used) u usage in omega (arith, l, m, s)
 
-pub request_long : (request : Request) → container_count request ≤ length (compact_text (request_data request))
-request_long request = let l = text_long (request_data request) in let m = by request.usage (look_up (codes "multipleUnitUsage") (request_fields request)) in omega (arith, l, m)
+pub request_long : ReadBackLaws → (request : Request) → container_count request ≤ length (compact_text (request_data request))
+request_long laws request = let l = text_long (request_data request) in let m = by request.usage (laws.look_up (codes "multipleUnitUsage") (request_fields request)) in omega (arith, l, m)
   where
     by : (usage : List UnitUsage) → given (codes "multipleUnitUsage") (request_data request) ≡ unless_null (listed (map usage_data usage)) → sum_by (λ u. length u.used) usage ≤ objects (request_data request)
     by [] e = omega arith
-    by (u ∷ usage) e = let l = field_less (codes "multipleUnitUsage") (with_fields (request_fields request) no_members) (array (items_of (map usage_data (u ∷ usage)))) e in let m = usages_long (u ∷ usage) in omega (arith, l, m)
+    by (u ∷ usage) e = let l = field_less (codes "multipleUnitUsage") (with_fields (request_fields request) no_members) (array (items_of (map usage_data (u ∷ usage)))) e in let m = usages_long laws (u ∷ usage) in omega (arith, l, m)

@@ -1,55 +1,15 @@
--- What stands under a name in what is written, and lists that read back.
+-- Lists and optional values that read back.
 use Rattle.std.proofs.Common.{◌≡◌, ◌≤◌, ℕ, Bool, true, false, List, [], ◌∷◌, map, length, nat_le, Option, Some, None, Ok, option_map, option_and_then, refl, sym, ◌∙◌, ap, arith, if◌then◌else◌, bytes_eq, inl, inr}
 use Rattle.std.proofs.lemmas.Bool.{cases_Bool, both_ways, true≢false}
 use Rattle.std.specs.Option.{is_some}
 use Rattle.std.proofs.lemmas.Bool.Decides.{nat_tests}
-use Rattle.std.proofs.lemmas.Slice.Eq.{bytes_eq-Decides}
 use Rattle.std.specs.List.{AllByRecursion}
 use Rattle.serde_json.specs.Data.{Data, Members, no_members}
-use Rattle.serde_json.specs.Find.{get_member}
 use Rattle.serde_json.specs.View.{items_of}
-use Rattle.serde_json.proofs.Views.{get_member-put, get_member-put_other}
 use Rattle.json_objects.specs.Fields.{unless_null, given, optional, each, list_of, or_empty, allowed, required_if}
 use Rattle.units.specs.Ranges.{IfGiven}
 use Rattle.charging_json.specs.Usage.{count, short, short_list_of}
 use Rattle.json_objects.specs.Objects.{put_if, with_fields, object_of, listed}
-
-abbrev pub or_else : Option Data → Option Data → Option Data
-or_else None later = later
-or_else (Some d) later = Some d
-
--- the last field of a name
-abbrev pub found : List ℕ → List (List ℕ × Option Data) → Option Data
-found name [] = None
-found name (f ∷ rest) = if bytes_eq name f.0 then or_else (found name rest) f.1 else found name rest
-
-or_none : (o : Option Data) → or_else o None ≡ o
-or_none None = refl
-or_none (Some d) = refl
-
-or_assoc : (a b c : Option Data) → or_else a (or_else b c) ≡ or_else (or_else a b) c
-or_assoc None b c = refl
-or_assoc (Some d) b c = refl
-
-put_same : (name : List ℕ) (o : Option Data) (ms : Members) → get_member name (put_if name o ms) ≡ or_else o (get_member name ms)
-put_same name None ms = refl
-put_same name (Some d) ms = get_member-put name d ms
-
-put_other : (name other : List ℕ) (o : Option Data) (ms : Members) → (name ≡ other → ⊥) → get_member name (put_if other o ms) ≡ get_member name ms
-put_other name other None ms differs = refl
-put_other name other (Some d) ms differs = get_member-put_other name other d ms differs
-
-look_in : (name : List ℕ) (fields : List (List ℕ × Option Data)) (ms : Members) → get_member name (with_fields fields ms) ≡ or_else (found name fields) (get_member name ms)
-look_in name [] ms = refl
-look_in name (f ∷ rest) ms = elim (cases_Bool (bytes_eq name f.0)) [
-  | inl here ↦ let same : name ≡ f.0 = (bytes_eq-Decides name f.0).0 here in
-      look_in name rest (put_if f.0 f.1 ms) ∙ ap (or_else (found name rest)) (ap (λ n. get_member name (put_if n f.1 ms)) (sym same) ∙ put_same name f.1 ms)
-      ∙ or_assoc (found name rest) f.1 (get_member name ms) ∙ rw here refl
-  | inr differs ↦ look_in name rest (put_if f.0 f.1 ms) ∙ ap (or_else (found name rest)) (put_other name f.0 f.1 ms (λ e. both_ways (bytes_eq name f.0) differs ((bytes_eq-Decides name f.0).1 e))) ∙ rw differs refl
-]
-
-pub look_up : (name : List ℕ) (fields : List (List ℕ × Option Data)) → given name (object_of fields) ≡ unless_null (found name fields)
-look_up name fields = ap unless_null (look_in name fields no_members ∙ or_none (found name fields))
 
 -- ---- lists
 

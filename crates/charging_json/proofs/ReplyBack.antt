@@ -22,6 +22,7 @@ use Rattle.units.specs.declared.reply.Problem.{Problem}
 use Rattle.json_objects.specs.Fields.{unless_null, given, is_object, number_32, volume, time, optional, list_of, or_empty, allowed}
 use Rattle.units.specs.Names.{is_kind}
 use Rattle.units.specs.Words.{name_of_type, type_named, name_of_category, is_immediate, name_of_code, code_named}
+use Rattle.json_objects.specs.ReadBack.{found, ReadBackLaws}
 use Rattle.charging_json.specs.Triggers.{first_given}
 use Rattle.charging_json.specs.Rules.{rule_of, rules_in, rules_of}
 use Rattle.charging_json.specs.Information.{last_units_of, amount, with_granted, granted_of, with_bounds, bounds_of, info_of}
@@ -30,7 +31,7 @@ use Rattle.json_objects.specs.Objects.{number_data, time_data, object_of, listed
 use Rattle.charging_json.specs.ReplyWritten.{rule_data, rule_fields, octets_of, seconds_of, granted_fields, granted_data, last_units_data, info_data, info_fields, result_data, failover_data, answer_data, answer_fields, problem_data, problem_fields}
 use Rattle.units.specs.Ranges.{Is32, IsMoment, IsVolume, IfGiven}
 use Rattle.units.specs.ReplyRanges.{FitsRule, FitsAmount, FitsInfo, FitsAnswer}
-use Rattle.charging_json.proofs.LookUp.{found, look_up, not_null, unless_empty, empty_again, list_back, optional_is, given_back, present, allowed_is}
+use Rattle.charging_json.proofs.LookUp.{not_null, unless_empty, empty_again, list_back, optional_is, given_back, present, allowed_is}
 use Rattle.charging_json.proofs.RequestBack.{TimesRead, number_back}
 
 -- a number that may be absent
@@ -100,24 +101,24 @@ rule_from value kind immediate octets seconds changes g1 g2 e3 e4 e5 g6 =
     let c = category_back immediate in
     rw (g1, k, g2, c, e3, e4, e5, g6, t, first_of_none octets) refl
 
-pub rule_back : (rule : TriggerRule) → FitsRule rule → rule_of (rule_data rule) ≡ Some (Some rule)
-rule_back rule fits =
+pub rule_back : ReadBackLaws → (rule : TriggerRule) → FitsRule rule → rule_of (rule_data rule) ≡ Some (Some rule)
+rule_back laws rule fits =
     let value = rule_data rule in
     let fields = rule_fields rule in
     rule_from value rule.trigger rule.immediate rule.volume rule.seconds rule.changes
-    (look_up (codes "triggerType") fields) (look_up (codes "triggerCategory") fields)
-    (optional_back number_32 Is32 (given (codes "timeLimit") value) rule.seconds (number_back 4294967295) fits.time (look_up (codes "timeLimit") fields))
-    (optional_back number_32 Is32 (given (codes "maxNumberOfccc") value) rule.changes (number_back 4294967295) fits.count (look_up (codes "maxNumberOfccc") fields))
-    (optional_back volume IsVolume (given (codes "volumeLimit64") value) rule.volume (number_back (2 ^ 60)) fits.octets (look_up (codes "volumeLimit64") fields))
-    (look_up (codes "volumeLimit") fields)
+    (laws.look_up (codes "triggerType") fields) (laws.look_up (codes "triggerCategory") fields)
+    (optional_back number_32 Is32 (given (codes "timeLimit") value) rule.seconds (number_back 4294967295) fits.time (laws.look_up (codes "timeLimit") fields))
+    (optional_back number_32 Is32 (given (codes "maxNumberOfccc") value) rule.changes (number_back 4294967295) fits.count (laws.look_up (codes "maxNumberOfccc") fields))
+    (optional_back volume IsVolume (given (codes "volumeLimit64") value) rule.volume (number_back (2 ^ 60)) fits.octets (laws.look_up (codes "volumeLimit64") fields))
+    (laws.look_up (codes "volumeLimit") fields)
 
-rules_back : (rules : List TriggerRule) → AllByRecursion FitsRule rules → rules_in (items_of (map rule_data rules)) ≡ Some rules
-rules_back [] all = refl
-rules_back (rule ∷ rules) all = rw (rule_back rule all.0, rules_back rules all.1) refl
+rules_back : ReadBackLaws → (rules : List TriggerRule) → AllByRecursion FitsRule rules → rules_in (items_of (map rule_data rules)) ≡ Some rules
+rules_back laws [] all = refl
+rules_back laws (rule ∷ rules) all = rw (rule_back laws rule all.0, rules_back laws rules all.1) refl
 
-pub rule_list_back : (rules : List TriggerRule) → AllByRecursion FitsRule rules → option_map rules_of (listed (map rule_data rules)) ≡ option_map Some (unless_empty rules)
-rule_list_back [] all = refl
-rule_list_back (rule ∷ rules) all = ap Some (rules_back (rule ∷ rules) all)
+pub rule_list_back : ReadBackLaws → (rules : List TriggerRule) → AllByRecursion FitsRule rules → option_map rules_of (listed (map rule_data rules)) ≡ option_map Some (unless_empty rules)
+rule_list_back laws [] all = refl
+rule_list_back laws (rule ∷ rules) all = ap Some (rules_back laws (rule ∷ rules) all)
 
 -- ---- entries
 
@@ -154,20 +155,20 @@ granted_from : (value : Data) (switch seconds octets : Option ℕ) → is_object
     → granted_of (Some value) ≡ Some (with_granted switch seconds octets)
 granted_from value switch seconds octets o e1 e2 e3 = rw (o, e1, e2, e3) refl
 
-granted_object_back : TimesRead → (grant : Option Amount) (switch : Option ℕ) → IfGiven FitsAmount grant → IfGiven IsMoment switch → granted_of (Some (object_of (granted_fields grant switch))) ≡ Some (record { grant = grant; switch = switch })
-granted_object_back times grant switch fits moments =
+granted_object_back : ReadBackLaws → TimesRead → (grant : Option Amount) (switch : Option ℕ) → IfGiven FitsAmount grant → IfGiven IsMoment switch → granted_of (Some (object_of (granted_fields grant switch))) ≡ Some (record { grant = grant; switch = switch })
+granted_object_back laws times grant switch fits moments =
     let fields = granted_fields grant switch in
     let value = object_of fields in
     granted_from value switch (seconds_of grant) (octets_of grant) refl
-    (optional_is time (given (codes "tariffTimeChange") value) switch (ap (option_map time) (look_up (codes "tariffTimeChange") fields ∙ present time_data switch (λ m. refl)) ∙ given_back time time_data IsMoment switch times moments))
-    (optional_back number_32 Is32 (given (codes "time") value) (seconds_of grant) (number_back 4294967295) (seconds_fit grant fits) (look_up (codes "time") fields))
-    (optional_back volume IsVolume (given (codes "totalVolume") value) (octets_of grant) (number_back (2 ^ 60)) (octets_fit grant fits) (look_up (codes "totalVolume") fields))
+    (optional_is time (given (codes "tariffTimeChange") value) switch (ap (option_map time) (laws.look_up (codes "tariffTimeChange") fields ∙ present time_data switch (λ m. refl)) ∙ given_back time time_data IsMoment switch times moments))
+    (optional_back number_32 Is32 (given (codes "time") value) (seconds_of grant) (number_back 4294967295) (seconds_fit grant fits) (laws.look_up (codes "time") fields))
+    (optional_back volume IsVolume (given (codes "totalVolume") value) (octets_of grant) (number_back (2 ^ 60)) (octets_fit grant fits) (laws.look_up (codes "totalVolume") fields))
     ∙ ap (λ g. Some (record { grant = g; switch = switch })) (amount_back grant)
 
-granted_back : TimesRead → (grant : Option Amount) (switch : Option ℕ) → IfGiven FitsAmount grant → IfGiven IsMoment switch → granted_of (unless_null (granted_data grant switch)) ≡ Some (record { grant = grant; switch = switch })
-granted_back times None None fits moments = refl
-granted_back times None (Some switch) fits moments = granted_object_back times None (Some switch) fits moments
-granted_back times (Some grant) switch fits moments = granted_object_back times (Some grant) switch fits moments
+granted_back : ReadBackLaws → TimesRead → (grant : Option Amount) (switch : Option ℕ) → IfGiven FitsAmount grant → IfGiven IsMoment switch → granted_of (unless_null (granted_data grant switch)) ≡ Some (record { grant = grant; switch = switch })
+granted_back laws times None None fits moments = refl
+granted_back laws times None (Some switch) fits moments = granted_object_back laws times None (Some switch) fits moments
+granted_back laws times (Some grant) switch fits moments = granted_object_back laws times (Some grant) switch fits moments
 
 bounds_from : (value : Data) (validity holding octets seconds : Option ℕ)
     → optional number_32 (given (codes "validityTime") value) ≡ Some validity → optional number_32 (given (codes "quotaHoldingTime") value) ≡ Some holding
@@ -184,21 +185,21 @@ info_from value group c grant switch validity holding octets seconds last_units 
     let test : nat_le group 4294967295 ≡ true = grind (arith, nat_tests, l) in
     rw (g1, test, g2, code_back c, e3, e4, e5, e6, empty_again rules) refl
 
-pub info_back : TimesRead → (info : UnitInfo) → FitsInfo info → info_of (info_data info) ≡ Some info
-info_back times info fits =
+pub info_back : ReadBackLaws → TimesRead → (info : UnitInfo) → FitsInfo info → info_of (info_data info) ≡ Some info
+info_back laws times info fits =
     let fields = info_fields info in
     let value = info_data info in
     info_from value info.group info.code info.grant info.switch info.validity info.holding info.volume_threshold info.time_threshold info.last_units info.triggers
-    (look_up (codes "ratingGroup") fields) fits.number (look_up (codes "resultCode") fields)
-    (ap granted_of (look_up (codes "grantedUnit") fields) ∙ granted_back times info.grant info.switch fits.granted fits.switched)
+    (laws.look_up (codes "ratingGroup") fields) fits.number (laws.look_up (codes "resultCode") fields)
+    (ap granted_of (laws.look_up (codes "grantedUnit") fields) ∙ granted_back laws times info.grant info.switch fits.granted fits.switched)
     (bounds_from value info.validity info.holding info.volume_threshold info.time_threshold
-    (optional_back number_32 Is32 (given (codes "validityTime") value) info.validity (number_back 4294967295) fits.valid (look_up (codes "validityTime") fields))
-    (optional_back number_32 Is32 (given (codes "quotaHoldingTime") value) info.holding (number_back 4294967295) fits.held (look_up (codes "quotaHoldingTime") fields))
-    (optional_back volume IsVolume (given (codes "volumeQuotaThreshold") value) info.volume_threshold (number_back (2 ^ 60)) fits.octets (look_up (codes "volumeQuotaThreshold") fields))
-    (optional_back number_32 Is32 (given (codes "timeQuotaThreshold") value) info.time_threshold (number_back 4294967295) fits.time (look_up (codes "timeQuotaThreshold") fields)))
-    (ap last_units_of (look_up (codes "finalUnitIndication") fields) ∙ last_units_back info.last_units)
+    (optional_back number_32 Is32 (given (codes "validityTime") value) info.validity (number_back 4294967295) fits.valid (laws.look_up (codes "validityTime") fields))
+    (optional_back number_32 Is32 (given (codes "quotaHoldingTime") value) info.holding (number_back 4294967295) fits.held (laws.look_up (codes "quotaHoldingTime") fields))
+    (optional_back volume IsVolume (given (codes "volumeQuotaThreshold") value) info.volume_threshold (number_back (2 ^ 60)) fits.octets (laws.look_up (codes "volumeQuotaThreshold") fields))
+    (optional_back number_32 Is32 (given (codes "timeQuotaThreshold") value) info.time_threshold (number_back 4294967295) fits.time (laws.look_up (codes "timeQuotaThreshold") fields)))
+    (ap last_units_of (laws.look_up (codes "finalUnitIndication") fields) ∙ last_units_back info.last_units)
     (optional_is rules_of (given (codes "triggers") value) (unless_empty info.triggers)
-    (ap (option_map rules_of) (look_up (codes "triggers") fields ∙ not_null (map rule_data info.triggers)) ∙ rule_list_back info.triggers fits.rules))
+    (ap (option_map rules_of) (laws.look_up (codes "triggers") fields ∙ not_null (map rule_data info.triggers)) ∙ rule_list_back laws info.triggers fits.rules))
 
 -- ---- answers
 
@@ -227,21 +228,21 @@ answer_from : (value : Data) (stamp number : ℕ) (h : Option (Option Handling))
     → answer_of value ≡ Ok (with_answer stamp number h f rules infos)
 answer_from value stamp number h f rules infos e1 e2 e3 e4 e5 e6 = rw (e1, e2, e3, e4, e5, e6) refl
 
-pub answer_back : TimesRead → (answer : Answer) → FitsAnswer answer → answer_of (answer_data answer) ≡ Ok answer
-answer_back times answer fits =
+pub answer_back : ReadBackLaws → TimesRead → (answer : Answer) → FitsAnswer answer → answer_of (answer_data answer) ≡ Ok answer
+answer_back laws times answer fits =
     let fields = answer_fields answer in
     let value = answer_data answer in
     answer_from value answer.stamp answer.number (option_map Some answer.handling) answer.failover (unless_empty answer.triggers) (unless_empty answer.units)
-    (ap (option_map time) (look_up (codes "invocationTimeStamp") fields) ∙ ap Some (times answer.stamp fits.stamped))
-    (ap (option_map number_32) (look_up (codes "invocationSequenceNumber") fields) ∙ ap Some (number_back 4294967295 answer.number fits.numbered))
+    (ap (option_map time) (laws.look_up (codes "invocationTimeStamp") fields) ∙ ap Some (times answer.stamp fits.stamped))
+    (ap (option_map number_32) (laws.look_up (codes "invocationSequenceNumber") fields) ∙ ap Some (number_back 4294967295 answer.number fits.numbered))
     (allowed_is (codes "invocationResult") (option_map result_of (given (codes "invocationResult") value)) (option_map Some answer.handling)
-    (ap (option_map result_of) (look_up (codes "invocationResult") fields) ∙ handling_back answer.handling))
+    (ap (option_map result_of) (laws.look_up (codes "invocationResult") fields) ∙ handling_back answer.handling))
     (allowed_is (codes "sessionFailover") (option_map failover (given (codes "sessionFailover") value)) answer.failover
-    (ap (option_map failover) (look_up (codes "sessionFailover") fields) ∙ failover_back answer.failover))
+    (ap (option_map failover) (laws.look_up (codes "sessionFailover") fields) ∙ failover_back answer.failover))
     (allowed_is (codes "triggers") (option_map rules_of (given (codes "triggers") value)) (unless_empty answer.triggers)
-    (ap (option_map rules_of) (look_up (codes "triggers") fields ∙ not_null (map rule_data answer.triggers)) ∙ rule_list_back answer.triggers fits.rules))
+    (ap (option_map rules_of) (laws.look_up (codes "triggers") fields ∙ not_null (map rule_data answer.triggers)) ∙ rule_list_back laws answer.triggers fits.rules))
     (allowed_is (codes "multipleUnitInformation") (option_map (list_of info_of) (given (codes "multipleUnitInformation") value)) (unless_empty answer.units)
-    (ap (option_map (list_of info_of)) (look_up (codes "multipleUnitInformation") fields ∙ not_null (map info_data answer.units)) ∙ list_back info_of info_data FitsInfo answer.units (info_back times) fits.entries))
+    (ap (option_map (list_of info_of)) (laws.look_up (codes "multipleUnitInformation") fields ∙ not_null (map info_data answer.units)) ∙ list_back info_of info_data FitsInfo answer.units (info_back laws times) fits.entries))
     ∙ ap (λ h. Ok (record answer { handling = h; triggers = or_empty (unless_empty answer.triggers); units = or_empty (unless_empty answer.units) })) (flat_back answer.handling)
     ∙ ap (λ rules. Ok (record answer { triggers = rules; units = or_empty (unless_empty answer.units) })) (empty_again answer.triggers)
     ∙ ap (λ infos. Ok (record answer { units = infos })) (empty_again answer.units)
@@ -253,12 +254,12 @@ problem_from : (status : ℕ) (value : Data) (cause : List ℕ) (detail : Option
     → problem_of status value ≡ Ok (with_problem status cause detail)
 problem_from status value cause detail g e = rw (g, e) refl
 
-pub problem_back : (problem : Problem) → problem_of problem.status (problem_data problem) ≡ Ok problem
-problem_back problem =
+pub problem_back : ReadBackLaws → (problem : Problem) → problem_of problem.status (problem_data problem) ≡ Ok problem
+problem_back laws problem =
     let fields = problem_fields problem in
-    problem_from problem.status (problem_data problem) problem.cause problem.detail (look_up (codes "cause") fields)
+    problem_from problem.status (problem_data problem) problem.cause problem.detail (laws.look_up (codes "cause") fields)
     (allowed_is (codes "detail") (option_map as_str (given (codes "detail") (problem_data problem))) problem.detail
-    (ap (option_map as_str) (look_up (codes "detail") fields ∙ present string problem.detail (λ t. refl)) ∙ given_back as_str string (λ t. Unit {0}) problem.detail (λ t h. refl) (any problem.detail)))
+    (ap (option_map as_str) (laws.look_up (codes "detail") fields ∙ present string problem.detail (λ t. refl)) ∙ given_back as_str string (λ t. Unit {0}) problem.detail (λ t h. refl) (any problem.detail)))
   where
     any : (o : Option (List ℕ)) → IfGiven (λ t. Unit {0}) o
     any None = tt

@@ -11,6 +11,7 @@ use Rattle.units.specs.declared.request.UnitUsage.{UnitUsage}
 use Rattle.units.specs.declared.request.Request.{Request}
 use Rattle.units.specs.declared.request.Operation.{Operation}
 use Rattle.json_objects.specs.Fields.{unless_null, given, is_object, number_to, number_32, volume, time, name, text_that, optional, list_of, or_empty, allowed, required_if}
+use Rattle.json_objects.specs.ReadBack.{ReadBackLaws}
 use Rattle.charging_json.specs.Triggers.{sound_kind}
 use Rattle.charging_json.specs.Usage.{times_of, counts_of, with_counts, used_of, ask_of, with_ask, containers_of, entry_of, short_list_of}
 use Rattle.charging_json.specs.Request.{consumer_of, charging_id_place, given_within, either_place, is_again, with_request, request_of}
@@ -20,7 +21,7 @@ use Rattle.std.proofs.lemmas.Bool.{and_parts, true≢false}
 use Rattle.json_objects.specs.Objects.{number_data, time_data, listed}
 use Rattle.charging_json.specs.RequestWritten.{trigger_data, total_of, span_data, used_data, used_fields, ask_data, ask_fields, usage_data, usage_fields, consumer_data, again_data, request_data, request_fields}
 use Rattle.units.specs.Ranges.{IsKind, IsName, IsAddress, IsVolume, Is32, FitsContainer, FitsAsk, FitsUsage, FitsRequest}
-use Rattle.charging_json.proofs.LookUp.{look_up, not_null, unless_empty, empty_again, list_back, short_list_back, optional_is, given_back, present, allowed_is, required_if_is}
+use Rattle.charging_json.proofs.LookUp.{not_null, unless_empty, empty_again, list_back, short_list_back, optional_is, given_back, present, allowed_is, required_if_is}
 
 -- each moment's text reads as it
 abbrev pub TimesRead : Type 0
@@ -71,23 +72,23 @@ used_from : (group stamp lsn seconds up down moment first last : ℕ) (value : D
     → used_of group stamp value ≡ Some (record { lsn = lsn; group = group; up = up; down = down; seconds = seconds; first = first; last = last; triggers = kinds; moment = moment })
 used_from group stamp lsn seconds up down moment first last value kinds e1 e2 e3 = rw (e1, e2, e3, empty_again kinds) refl
 
-kinds_given : (used : Used) → given (codes "triggers") (used_data used) ≡ listed (map trigger_data used.triggers)
-kinds_given used = look_up (codes "triggers") (used_fields used) ∙ not_null (map trigger_data used.triggers)
+kinds_given : ReadBackLaws → (used : Used) → given (codes "triggers") (used_data used) ≡ listed (map trigger_data used.triggers)
+kinds_given laws used = laws.look_up (codes "triggers") (used_fields used) ∙ not_null (map trigger_data used.triggers)
 
 total_is : (up down : ℕ) → up ≤ 2 ^ 60 → down ≤ 2 ^ 60 → total_of up down ≡ up + down
 total_is up down a b = omega arith
 
-pub used_back : TimesRead → (group stamp : ℕ) (used : Used) → FitsContainer group used → used_of group stamp (used_data used) ≡ Some used
-used_back times group stamp used fits =
+pub used_back : ReadBackLaws → TimesRead → (group stamp : ℕ) (used : Used) → FitsContainer group used → used_of group stamp (used_data used) ≡ Some used
+used_back laws times group stamp used fits =
     let value = used_data used in
     let counts = counts_from value used.lsn used.seconds used.up used.down (total_of used.up used.down)
-    (look_up (codes "localSequenceNumber") (used_fields used)) (look_up (codes "time") (used_fields used)) (look_up (codes "uplinkVolume") (used_fields used))
-    (look_up (codes "downlinkVolume") (used_fields used)) (look_up (codes "totalVolume") (used_fields used))
+    (laws.look_up (codes "localSequenceNumber") (used_fields used)) (laws.look_up (codes "time") (used_fields used)) (laws.look_up (codes "uplinkVolume") (used_fields used))
+    (laws.look_up (codes "downlinkVolume") (used_fields used)) (laws.look_up (codes "totalVolume") (used_fields used))
     fits.number fits.seconds fits.up fits.down (total_is used.up used.down fits.up fits.down) in
     let span = times_from stamp value (span_data used) used.moment used.first used.last times
-    (look_up (codes "triggerTimestamp") (used_fields used)) (look_up (codes "pDUContainerInformation") (used_fields used)) refl refl refl fits.closed fits.in_order fits.last in
+    (laws.look_up (codes "triggerTimestamp") (used_fields used)) (laws.look_up (codes "pDUContainerInformation") (used_fields used)) refl refl refl fits.closed fits.in_order fits.last in
     let kinds = optional_is (list_of sound_kind) (given (codes "triggers") value) (unless_empty used.triggers)
-    (ap (option_map (list_of sound_kind)) (kinds_given used) ∙ list_back sound_kind trigger_data IsKind used.triggers trigger_back fits.kinds) in
+    (ap (option_map (list_of sound_kind)) (kinds_given laws used) ∙ list_back sound_kind trigger_data IsKind used.triggers trigger_back fits.kinds) in
     used_from group stamp used.lsn used.seconds used.up used.down used.moment used.first used.last value used.triggers counts span kinds
     ∙ ap (λ g. Some (record used { group = g })) (sym fits.of_group)
 
@@ -96,14 +97,14 @@ used_back times group stamp used fits =
 ask_from : (value : Data) (octets seconds : Option ℕ) → is_object value ≡ true → optional volume (given (codes "totalVolume") value) ≡ Some octets → optional number_32 (given (codes "time") value) ≡ Some seconds → ask_of value ≡ Some (with_ask octets seconds)
 ask_from value octets seconds o e1 e2 = rw (o, e1, e2) refl
 
-pub ask_back : (ask : Ask) → FitsAsk ask → ask_of (ask_data ask) ≡ Some ask
-ask_back ask fits =
+pub ask_back : ReadBackLaws → (ask : Ask) → FitsAsk ask → ask_of (ask_data ask) ≡ Some ask
+ask_back laws ask fits =
     let value = ask_data ask in
     ask_from value ask.volume ask.seconds refl
     (optional_is volume (given (codes "totalVolume") value) ask.volume
-    (ap (option_map volume) (look_up (codes "totalVolume") (ask_fields ask) ∙ present number_data ask.volume (λ n. refl)) ∙ given_back volume number_data IsVolume ask.volume (number_back (2 ^ 60)) fits.octets))
+    (ap (option_map volume) (laws.look_up (codes "totalVolume") (ask_fields ask) ∙ present number_data ask.volume (λ n. refl)) ∙ given_back volume number_data IsVolume ask.volume (number_back (2 ^ 60)) fits.octets))
     (optional_is number_32 (given (codes "time") value) ask.seconds
-    (ap (option_map number_32) (look_up (codes "time") (ask_fields ask) ∙ present number_data ask.seconds (λ n. refl)) ∙ given_back number_32 number_data Is32 ask.seconds (number_back 4294967295) fits.time))
+    (ap (option_map number_32) (laws.look_up (codes "time") (ask_fields ask) ∙ present number_data ask.seconds (λ n. refl)) ∙ given_back number_32 number_data Is32 ask.seconds (number_back 4294967295) fits.time))
 
 entry_from : (stamp : ℕ) (value : Data) (group : ℕ) (ask : Option Ask) (used : List Used)
     → given (codes "ratingGroup") value ≡ Some (number_data group) → group ≤ 4294967295
@@ -113,16 +114,16 @@ entry_from stamp value group ask used g l e1 e2 =
     let test : nat_le group 4294967295 ≡ true = grind (arith, nat_tests, l) in
     rw (g, test, e1, e2, empty_again used) refl
 
-pub usage_back : TimesRead → (stamp : ℕ) (usage : UnitUsage) → FitsUsage usage → entry_of stamp (usage_data usage) ≡ Some usage
-usage_back times stamp usage fits =
+pub usage_back : ReadBackLaws → TimesRead → (stamp : ℕ) (usage : UnitUsage) → FitsUsage usage → entry_of stamp (usage_data usage) ≡ Some usage
+usage_back laws times stamp usage fits =
     let value = usage_data usage in
     entry_from stamp value usage.group usage.ask usage.used
-    (look_up (codes "ratingGroup") (usage_fields usage)) fits.number
+    (laws.look_up (codes "ratingGroup") (usage_fields usage)) fits.number
     (optional_is ask_of (given (codes "requestedUnit") value) usage.ask
-    (ap (option_map ask_of) (look_up (codes "requestedUnit") (usage_fields usage) ∙ present ask_data usage.ask (λ ask. refl)) ∙ given_back ask_of ask_data FitsAsk usage.ask ask_back fits.asked))
+    (ap (option_map ask_of) (laws.look_up (codes "requestedUnit") (usage_fields usage) ∙ present ask_data usage.ask (λ ask. refl)) ∙ given_back ask_of ask_data FitsAsk usage.ask (ask_back laws) fits.asked))
     (optional_is (short_list_of (used_of usage.group stamp)) (given (codes "usedUnitContainer") value) (unless_empty usage.used)
-    (ap (option_map (short_list_of (used_of usage.group stamp))) (look_up (codes "usedUnitContainer") (usage_fields usage) ∙ not_null (map used_data usage.used))
-    ∙ short_list_back (used_of usage.group stamp) used_data (FitsContainer usage.group) usage.used (used_back times usage.group stamp) fits.containers fits.few))
+    (ap (option_map (short_list_of (used_of usage.group stamp))) (laws.look_up (codes "usedUnitContainer") (usage_fields usage) ∙ not_null (map used_data usage.used))
+    ∙ short_list_back (used_of usage.group stamp) used_data (FitsContainer usage.group) usage.used (used_back laws times usage.group stamp) fits.containers fits.few))
 
 -- ---- requests
 
@@ -158,28 +159,28 @@ again_is : (again : Bool) → is_again (if again then Some true else None) ≡ a
 again_is true = refl
 again_is false = refl
 
-pub request_back : TimesRead → (request : Request) → FitsRequest request → request_of request.operation (request_data request) ≡ Ok request
-request_back times request fits =
+pub request_back : ReadBackLaws → TimesRead → (request : Request) → FitsRequest request → request_of request.operation (request_data request) ≡ Ok request
+request_back laws times request fits =
     let value = request_data request in
     let fields = request_fields request in
     let must = needs (is_create request.operation) (is_some request.subscriber) (is_some request.charging_id) fits.complete in
     let whole = request_from request.operation value request.consumer request.stamp request.number request.subscriber request.charging_id (if request.again then Some true else None) request.notify (unless_empty request.usage) (unless_empty request.triggers)
-    (ap (option_map consumer_of) (look_up (codes "nfConsumerIdentification") fields) ∙ ap Some (consumer_back request.consumer fits.name))
-    (ap (option_map time) (look_up (codes "invocationTimeStamp") fields) ∙ ap Some (times request.stamp fits.stamped))
-    (ap (option_map number_32) (look_up (codes "invocationSequenceNumber") fields) ∙ ap Some (number_back 4294967295 request.number fits.numbered))
+    (ap (option_map consumer_of) (laws.look_up (codes "nfConsumerIdentification") fields) ∙ ap Some (consumer_back request.consumer fits.name))
+    (ap (option_map time) (laws.look_up (codes "invocationTimeStamp") fields) ∙ ap Some (times request.stamp fits.stamped))
+    (ap (option_map number_32) (laws.look_up (codes "invocationSequenceNumber") fields) ∙ ap Some (number_back 4294967295 request.number fits.numbered))
     (required_if_is (is_create request.operation) (codes "subscriberIdentifier") (option_map name (given (codes "subscriberIdentifier") value)) request.subscriber
-    (ap (option_map name) (look_up (codes "subscriberIdentifier") fields ∙ present string request.subscriber (λ t. refl)) ∙ given_back name string IsName request.subscriber (text_back spells_name) fits.subscribed) must.0)
+    (ap (option_map name) (laws.look_up (codes "subscriberIdentifier") fields ∙ present string request.subscriber (λ t. refl)) ∙ given_back name string IsName request.subscriber (text_back spells_name) fits.subscribed) must.0)
     (required_if_is (is_create request.operation) (codes "chargingId") (option_map number_32 (charging_id_place value)) request.charging_id
-    (ap (option_map number_32) (place_is (given (codes "chargingId") value) (given_within (codes "chargingId") (given (codes "pDUSessionChargingInformation") value)) (ap (given_within (codes "chargingId")) (look_up (codes "pDUSessionChargingInformation") fields))
-    ∙ look_up (codes "chargingId") fields ∙ present number_data request.charging_id (λ n. refl)) ∙ given_back number_32 number_data Is32 request.charging_id (number_back 4294967295) fits.charged) must.1)
-    (ap (λ o. allowed (codes "retransmissionIndicator") (option_map as_bool o)) (look_up (codes "retransmissionIndicator") fields) ∙ again_given request.again)
+    (ap (option_map number_32) (place_is (given (codes "chargingId") value) (given_within (codes "chargingId") (given (codes "pDUSessionChargingInformation") value)) (ap (given_within (codes "chargingId")) (laws.look_up (codes "pDUSessionChargingInformation") fields))
+    ∙ laws.look_up (codes "chargingId") fields ∙ present number_data request.charging_id (λ n. refl)) ∙ given_back number_32 number_data Is32 request.charging_id (number_back 4294967295) fits.charged) must.1)
+    (ap (λ o. allowed (codes "retransmissionIndicator") (option_map as_bool o)) (laws.look_up (codes "retransmissionIndicator") fields) ∙ again_given request.again)
     (allowed_is (codes "notifyUri") (option_map (text_that is_address) (given (codes "notifyUri") value)) request.notify
-    (ap (option_map (text_that is_address)) (look_up (codes "notifyUri") fields ∙ present string request.notify (λ t. refl)) ∙ given_back (text_that is_address) string IsAddress request.notify (text_back is_address) fits.notified))
+    (ap (option_map (text_that is_address)) (laws.look_up (codes "notifyUri") fields ∙ present string request.notify (λ t. refl)) ∙ given_back (text_that is_address) string IsAddress request.notify (text_back is_address) fits.notified))
     (allowed_is (codes "multipleUnitUsage") (option_map (short_list_of (entry_of request.stamp)) (given (codes "multipleUnitUsage") value)) (unless_empty request.usage)
-    (ap (option_map (short_list_of (entry_of request.stamp))) (look_up (codes "multipleUnitUsage") fields ∙ not_null (map usage_data request.usage))
-    ∙ short_list_back (entry_of request.stamp) usage_data FitsUsage request.usage (usage_back times request.stamp) fits.entries fits.few))
+    (ap (option_map (short_list_of (entry_of request.stamp))) (laws.look_up (codes "multipleUnitUsage") fields ∙ not_null (map usage_data request.usage))
+    ∙ short_list_back (entry_of request.stamp) usage_data FitsUsage request.usage (usage_back laws times request.stamp) fits.entries fits.few))
     (allowed_is (codes "triggers") (option_map (list_of sound_kind) (given (codes "triggers") value)) (unless_empty request.triggers)
-    (ap (option_map (list_of sound_kind)) (look_up (codes "triggers") fields ∙ not_null (map trigger_data request.triggers)) ∙ list_back sound_kind trigger_data IsKind request.triggers trigger_back fits.kinds)) in
+    (ap (option_map (list_of sound_kind)) (laws.look_up (codes "triggers") fields ∙ not_null (map trigger_data request.triggers)) ∙ list_back sound_kind trigger_data IsKind request.triggers trigger_back fits.kinds)) in
     whole
     ∙ ap (λ again. Ok (record request { again = again; usage = or_empty (unless_empty request.usage); triggers = or_empty (unless_empty request.triggers) })) (again_is request.again)
     ∙ ap (λ usage. Ok (record request { usage = usage; triggers = or_empty (unless_empty request.triggers) })) (empty_again request.usage)

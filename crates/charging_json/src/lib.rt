@@ -4,14 +4,15 @@
 //! or its first fault in the profile's order; what is written is the compact text of the message's value, and reads
 //! back for every value in the ranges of its format.
 //!
-//! How it is built: values of JSON are seen as `Data` of `serde_json`; a reader of one field is a function on
-//! `Data`, and its Rust function has that function as its one clause. A source file stands beside each file of
-//! definitions.
+//! How it is built: a source file stands beside each file of definitions. A reader is a function on the value that a
+//! body is, over the fields of `json_objects`; a writer is a function on the message, which writes token after token by
+//! `json_objects::ObjectWriter`, so that no value of JSON and no key takes memory.
 //!
 //! Where a rule goes: a field of a request is its reading in `specs/Request` at its place in the chain, one
-//! function and one line of `request_reader`; its writing in `request_fields` and `request_value`; its range in
-//! `FitsRequest`. A field within an entry goes the same way through `Usage`, a field of a reply through `Reply`. A
-//! trigger type is a line of both tables of `rules` and `triggers`.
+//! function and one line of `request_reader`; its writing in `request_fields` and, at its place among the keys, in
+//! `put_request`; its range in `FitsRequest`, and that this range reads back in `proofs/RequestReadable`. A field within
+//! an entry goes the same way through `Usage`, a field of a reply through `Reply`. A trigger type is a line of both
+//! tables of `rules` and `triggers`.
 #![tactic(auto)]
 
 mod cause;

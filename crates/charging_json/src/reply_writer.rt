@@ -278,7 +278,8 @@ pub fn reply_status(reply: &Reply) -> u16
     }
 }
 
-/// The Location of a reply's response, which only a session that was made has (TS 32.291, 6.1.3.2).
+/// The Location of a reply's response, which only a session that was made has (TS 32.291, 6.1.3.2); the others want no
+/// memory.
 pub fn reply_location(alloc: Global, reply: &Reply) -> Result<Option<Text>, OutOfMemory>
     ensures location { IfOk result (λ o. o ≡ location_of reply.now) }
     ensures none { location_of reply.now ≡ None → result ≡ Ok None }
@@ -292,7 +293,7 @@ pub fn reply_location(alloc: Global, reply: &Reply) -> Result<Option<Text>, OutO
 }
 
 /// Appends the body of a reply to a buffer: compact, the keys ascending, absent fields and empty lists left out; a
-/// session that was released has an empty one. Where memory is wanting the buffer is as before.
+/// session that was released has an empty one, which wants no memory. Where memory is wanting the buffer is as before.
 ///
 /// A reply in the ranges of its format reads back, with its status and its Location, as the same reply.
 pub fn append_reply(alloc: Global, out: &mut List<u8>, reply: &Reply) -> Result<(), OutOfMemory>
@@ -302,6 +303,7 @@ pub fn append_reply(alloc: Global, out: &mut List<u8>, reply: &Reply) -> Result<
     ensures reads_back { FitsReply reply.now → OnOk result (reply_in (status_of reply.now) (location_of reply.now) (reply_text reply.now) ≡ Ok reply.now) }
 {
     times_read_back();
+    written_values_read_back();
     match reply {
         Reply::Created { answer, .. } => append_answer(alloc, out, answer),
         Reply::Updated { answer } => append_answer(alloc, out, answer),
@@ -310,13 +312,16 @@ pub fn append_reply(alloc: Global, out: &mut List<u8>, reply: &Reply) -> Result<
     }
 }
 
-/// The body of a reply, as `append_reply` writes it.
+/// The body of a reply, as `append_reply` writes it; a session that was released wants no memory.
 pub fn write_reply(alloc: Global, reply: &Reply) -> Result<List<u8>, OutOfMemory>
     ensures text { IfOk result (λ b. b ≡ reply_text reply.now) }
     ensures released { reply.now ≡ variant.Released → result ≡ Ok [] }
     ensures reads_back { FitsReply reply.now → IfOk result (λ b. reply_in (status_of reply.now) (location_of reply.now) b ≡ Ok reply.now) }
 {
-    let mut out = List::new(alloc);
+    let mut out = match reply {
+        Reply::Released => List::new(alloc),
+        _ => List::from_vec(Vec::with_capacity(alloc, 512)?),
+    };
     append_reply(alloc, &mut out, reply)?;
     Ok(out)
 }

@@ -223,7 +223,7 @@ pub fn write_request(alloc: Global, request: &Request) -> Result<List<u8>, OutOf
     ensures bytes { IfOk result (λ b. container_count request.now ≤ length b) }
     ensures reads_back { FitsRequest request.now → IfOk result (λ b. request_in request.now.operation b ≡ Ok request.now) }
 {
-    let mut out = List::new(alloc);
+    let mut out = List::from_vec(Vec::with_capacity(alloc, 512)?);
     append_request(alloc, &mut out, request)?;
     Ok(out)
 }

@@ -1,4 +1,5 @@
 mod BodyObjects
 mod InOrder
 mod Items
+mod LookUp
 mod ReadsBack

@@ -15,6 +15,7 @@ use Rattle.serde_json.proofs.Texts.{print-outline}
 use Rattle.json_objects.specs.Objects.{put_if, with_fields, object_of, listed}
 use Rattle.json_objects.specs.Tokens.{tokens_of, do_ascend}
 use Rattle.json_objects.specs.ReadBack.{CanBeRead, IfThere, FieldsCanBeRead, ItemsCanBeRead, ReadBackLaws}
+use Rattle.json_objects.proofs.LookUp.{look_up}
 use Rattle.json_objects.proofs.InOrder.{in_order, before, ordered}
 
 -- ---- the text of a value
@@ -99,4 +100,5 @@ read_back_laws = record {
   objects = object_back;
   lists = list_back;
   deeper = λ levels more value le can. record { exact = can.exact; deep = let h = can.deep in omega (arith, h, le) };
+  look_up = look_up;
 }

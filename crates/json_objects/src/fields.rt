@@ -1,4 +1,4 @@
-ghost use Rattle.std.specs.Prelude.{◌≡◌, ◌⊎◌, IfOk, Some, option_map};
+ghost use Rattle.std.specs.Prelude.{◌≡◌, ◌⊎◌, IfOk, IsOk, Ok, None, Some, option_map};
 ghost use Rattle.serde_json.specs.View.{view};
 ghost use Rattle.units.specs.Answers.{IsOrNoMemory};
 ghost use Rattle.units.specs.declared.refusal.JsonRefusal.TheVariants as refusal;
@@ -118,7 +118,8 @@ pub fn needed_number_32(value: &Value, label: &str) -> Option<u32>
 
 /// A text of its own.
 pub fn owned(alloc: Global, text: Option<&str>) -> Result<Option<Text>, AllocError>
-    ensures { IfOk result (λ o. o ≡ option_map (λ t. t.now) text.entry) }
+    ensures copy { IfOk result (λ o. o ≡ option_map (λ t. t.now) text.entry) }
+    ensures none { text.entry ≡ None → result ≡ Ok None }
 {
     match text {
         Some(text) => Ok(Some(Text::from_text(alloc, text)?)),
@@ -146,13 +147,14 @@ pub fn wrong(alloc: Global, label: &str) -> JsonRefusal
     }
 }
 
-/// A field that has to be there: absent, wrong or right.
+/// A field that has to be there: absent, wrong or right, which wants no memory.
 pub fn required<T: Drop>(
     alloc: Global,
     label: &str,
     found: Option<Option<T>>,
 ) -> Result<T, JsonRefusal>
-    ensures { IsOrNoMemory refusal.OutOfMemory result (required label.now found) }
+    ensures answer { IsOrNoMemory refusal.OutOfMemory result (required label.now found) }
+    ensures right { IsOk (required label.now found) → result ≡ required label.now found }
 {
     match found {
         Some(Some(value)) => Ok(value),
@@ -161,13 +163,14 @@ pub fn required<T: Drop>(
     }
 }
 
-/// A field that may be absent.
+/// A field that may be absent: wrong, or right, which wants no memory.
 pub fn allowed<T: Drop>(
     alloc: Global,
     label: &str,
     found: Option<Option<T>>,
 ) -> Result<Option<T>, JsonRefusal>
-    ensures { IsOrNoMemory refusal.OutOfMemory result (allowed label.now found) }
+    ensures answer { IsOrNoMemory refusal.OutOfMemory result (allowed label.now found) }
+    ensures right { IsOk (allowed label.now found) → result ≡ allowed label.now found }
 {
     match found {
         Some(Some(value)) => Ok(Some(value)),
@@ -176,14 +179,15 @@ pub fn allowed<T: Drop>(
     }
 }
 
-/// A field that has to be there where `must` holds.
+/// A field that has to be there where `must` holds: absent, wrong or right, which wants no memory.
 pub fn required_if<T: Drop>(
     alloc: Global,
     must: bool,
     label: &str,
     found: Option<Option<T>>,
 ) -> Result<Option<T>, JsonRefusal>
-    ensures { IsOrNoMemory refusal.OutOfMemory result (required_if must label.now found) }
+    ensures answer { IsOrNoMemory refusal.OutOfMemory result (required_if must label.now found) }
+    ensures right { IsOk (required_if must label.now found) → result ≡ required_if must label.now found }
 {
     match found {
         Some(Some(value)) => Ok(Some(value)),

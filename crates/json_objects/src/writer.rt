@@ -1,5 +1,5 @@
 ghost use Rattle.std.specs.Prelude.{◌≡◌, ◌∷◌, ◌++◌, [], ℕ, List, Option, IsTrue, IsUtf8, Some, OnOk, option_map};
-ghost use Rattle.json.specs.Token.{Token, begin_object, begin_array, key};
+ghost use Rattle.json.specs.Token.{Token, begin_object, end_object, begin_array, end_array, key};
 ghost use Rattle.json.specs.Print.{print};
 ghost use Rattle.serde_json.specs.Data.{Data, array, boolean, string};
 ghost use Rattle.serde_json.specs.Read.{read, max_depth};
@@ -56,8 +56,10 @@ impl ObjectWriter {
         ensures bytes { result ≡ self.before ++ print self.tokens }
         ensures utf8 { IsUtf8 (print self.tokens) }
         ensures text { (value : Data) → self.tokens ≡ tokens_of value → print self.tokens ≡ compact_text value }
-        ensures reads { (value : Data) → self.tokens ≡ tokens_of value → CanBeRead max_depth value → read (print self.tokens) ≡ Some value }
-        ensures object { (value : Data) → self.tokens ≡ tokens_of value → CanBeRead max_depth value → IsTrue (is_object value) → object_in (print self.tokens) ≡ Some value }
+        ensures reads { (value : Data) → self.tokens ≡ tokens_of value → CanBeRead max_depth value
+            → read (print self.tokens) ≡ Some value }
+        ensures object { (value : Data) → self.tokens ≡ tokens_of value → CanBeRead max_depth value
+            → IsTrue (is_object value) → object_in (print self.tokens) ≡ Some value }
     {
         let ObjectWriter { out, .. } = self;
         Bytes::from_vec(out.into_inner())
@@ -83,8 +85,10 @@ impl ObjectWriter {
 
     /// Ends an object: where fields of ascending names were written since it began, it is the object of these.
     pub fn end_object(&mut self) -> Result<(), AllocError>
-        ensures ok { (before : List Token) (fields : List (List ℕ × Option Data)) → self.old.tokens ≡ fields_after (before ++ begin_object ∷ []) fields
-            → IsTrue (do_ascend fields) → OnOk result (self.new.tokens ≡ before ++ tokens_of (object_of fields)) }
+        ensures ok { (before : List Token) (fields : List (List ℕ × Option Data))
+            → self.old.tokens ≡ fields_after (before ++ begin_object ∷ []) fields → IsTrue (do_ascend fields)
+            → OnOk result (self.new.tokens ≡ before ++ tokens_of (object_of fields)) }
+        ensures token { OnOk result (self.new.tokens ≡ self.old.tokens ++ end_object ∷ []) }
         ensures before { self.new.before ≡ self.old.before }
     {
         self.out.end_object()
@@ -110,13 +114,17 @@ impl ObjectWriter {
     pub fn end_list(&mut self) -> Result<(), AllocError>
         ensures ok { (before : List Token) (values : List Data) → self.old.tokens ≡ values_after (before ++ begin_array ∷ []) values
             → OnOk result (self.new.tokens ≡ before ++ tokens_of (array (items_of values))) }
+        ensures token { OnOk result (self.new.tokens ≡ self.old.tokens ++ end_array ∷ []) }
         ensures before { self.new.before ≡ self.old.before }
     {
         self.out.end_array()
     }
+}
 
-    /// A number as a value under a name, where there is one.
-    #[tactic(auto, unfolding(crate::specs::Tokens::tokens_of, crate::specs::Tokens::field_after))]
+// Whole fields, of which each is a name and a value.
+#[tactic(auto, unfolding(crate::specs::Tokens::tokens_of, crate::specs::Tokens::field_after))]
+impl ObjectWriter {
+    /// A number under a name, where there is one.
     pub fn number(&mut self, name: &str, number: Option<u64>) -> Result<(), AllocError>
         ensures ok { OnOk result (self.new.tokens ≡ field_after self.old.tokens name.now (option_map number_data number)) }
         ensures before { self.new.before ≡ self.old.before }
@@ -131,7 +139,6 @@ impl ObjectWriter {
     }
 
     /// A number of 32 bits under a name, where there is one.
-    #[tactic(auto, unfolding(crate::specs::Tokens::tokens_of, crate::specs::Tokens::field_after))]
     pub fn number_32(&mut self, name: &str, number: Option<u32>) -> Result<(), AllocError>
         ensures ok { OnOk result (self.new.tokens ≡ field_after self.old.tokens name.now (option_map number_data number)) }
         ensures before { self.new.before ≡ self.old.before }
@@ -146,7 +153,6 @@ impl ObjectWriter {
     }
 
     /// A text under a name.
-    #[tactic(auto, unfolding(crate::specs::Tokens::tokens_of, crate::specs::Tokens::field_after))]
     pub fn text(&mut self, name: &str, text: &str) -> Result<(), AllocError>
         ensures ok { OnOk result (self.new.tokens ≡ field_after self.old.tokens name.now (Some (string text.now))) }
         ensures before { self.new.before ≡ self.old.before }
@@ -156,7 +162,6 @@ impl ObjectWriter {
     }
 
     /// A text under a name, where there is one.
-    #[tactic(auto, unfolding(crate::specs::Tokens::tokens_of, crate::specs::Tokens::field_after))]
     pub fn text_if(&mut self, name: &str, text: &Option<Text>) -> Result<(), AllocError>
         ensures ok { OnOk result (self.new.tokens ≡ field_after self.old.tokens name.now (option_map string text.now)) }
         ensures before { self.new.before ≡ self.old.before }
@@ -168,7 +173,6 @@ impl ObjectWriter {
     }
 
     /// A truth value under a name.
-    #[tactic(auto, unfolding(crate::specs::Tokens::tokens_of, crate::specs::Tokens::field_after))]
     pub fn boolean(&mut self, name: &str, value: bool) -> Result<(), AllocError>
         ensures ok { OnOk result (self.new.tokens ≡ field_after self.old.tokens name.now (Some (boolean value))) }
         ensures before { self.new.before ≡ self.old.before }
@@ -178,7 +182,6 @@ impl ObjectWriter {
     }
 
     /// A moment under a name, where there is one.
-    #[tactic(auto, unfolding(crate::specs::Tokens::tokens_of, crate::specs::Tokens::field_after))]
     pub fn time(&mut self, name: &str, moment: Option<Moment>) -> Result<(), AllocError>
         ensures ok { OnOk result (self.new.tokens ≡ field_after self.old.tokens name.now (option_map time_data moment)) }
         ensures before { self.new.before ≡ self.old.before }
@@ -190,7 +193,6 @@ impl ObjectWriter {
     }
 
     // A moment under a name.
-    #[tactic(auto, unfolding(crate::specs::Tokens::tokens_of, crate::specs::Tokens::field_after))]
     fn moment(&mut self, name: &str, moment: Moment) -> Result<(), AllocError>
         ensures ok { OnOk result (self.new.tokens ≡ field_after self.old.tokens name.now (Some (time_data moment))) }
         ensures before { self.new.before ≡ self.old.before }
