@@ -6,3 +6,4 @@ pub mod Spans
 pub mod Writes
 pub mod Turns
 pub mod Rooms
+pub mod EpochDigits

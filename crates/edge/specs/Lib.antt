@@ -9,3 +9,4 @@ pub mod StoredImages
 pub mod DiskScript
 pub mod MemDisks
 pub mod FileDisks
+pub mod EpochText
