@@ -11,14 +11,12 @@ use crate::tlv::{Body, Tlv};
 use std::alloc::{AllocError, Global};
 use units::{List, OutOfMemory};
 
-// Adds the shortest octets of a definite length.
-fn put_length(out: &mut Vec<u8>, n: u64) -> Result<(), AllocError>
+// Adds the octets of a definite length of 128 at least.
+#[inline(never)]
+fn put_long_length(out: &mut Vec<u8>, n: u64) -> Result<(), AllocError>
+    requires { 128 ≤ n }
     ensures { OnOk result (out.new.items ≡ out.old.items ++ length_octets n) }
 {
-    if n < 128 {
-        out.push(n as u8)?;
-        return Ok(());
-    }
     let count = octet_count(n);
     out.push(128 + count as u8)?;
     let octets = n.to_be_bytes();
@@ -27,7 +25,20 @@ fn put_length(out: &mut Vec<u8>, n: u64) -> Result<(), AllocError>
     Ok(())
 }
 
+// Adds the shortest octets of a definite length.
+#[inline(always)]
+fn put_length(out: &mut Vec<u8>, n: u64) -> Result<(), AllocError>
+    ensures { OnOk result (out.new.items ≡ out.old.items ++ length_octets n) }
+{
+    if n < 128 {
+        out.push(n as u8)?;
+        return Ok(());
+    }
+    put_long_length(out, n)
+}
+
 // Adds a number from 31 on in base 128.
+#[inline(never)]
 fn put_high(out: &mut Vec<u8>, n: u32) -> Result<(), AllocError>
     ensures { OnOk result (out.new.items ≡ out.old.items ++ high_octets n) }
 {
@@ -51,6 +62,7 @@ fn put_high(out: &mut Vec<u8>, n: u32) -> Result<(), AllocError>
 }
 
 // Adds the identifier octets.
+#[inline(always)]
 fn put_tag(out: &mut Vec<u8>, tag: &Tag) -> Result<(), AllocError>
     ensures { OnOk result (out.new.items ≡ out.old.items ++ identifier tag.now) }
 {
@@ -98,7 +110,8 @@ fn octets(alloc: Global, tlv: &Tlv) -> Result<List<u8>, OutOfMemory>
     ensures written { IfOk result (λ bytes. bytes ≡ written (element tlv.now)) }
     ensures bound { IfOk result (λ bytes. length bytes < 2 ^ 63) }
 {
-    let mut lengths = Vec::new(alloc);
+    // Most records have at most 16 constructed elements.
+    let mut lengths = Vec::with_capacity(alloc, 16)?;
     let count = measure(&mut lengths, tlv)?;
     let mut out = Vec::with_capacity(alloc, count)?;
     put(&mut out, &lengths, tlv)?;

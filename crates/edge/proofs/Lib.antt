@@ -7,3 +7,4 @@ pub mod Writes
 pub mod Turns
 pub mod Rooms
 pub mod Visited
+pub mod EpochDigits

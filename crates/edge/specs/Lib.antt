@@ -15,3 +15,4 @@ pub mod StoredImages
 pub mod DiskScript
 pub mod MemDisks
 pub mod FileDisks
+pub mod EpochText
