@@ -40,6 +40,8 @@ impl Stream for Pieces {
     ghost connections = { λ _. None };
 
     ghost openings = { λ _. untold };
+
+    ghost present = { λ _. tt };
 }
 
 impl Source for Pieces {

@@ -1,4 +1,4 @@
-//! What the outside gives and takes: sources, sinks and disks, each with a count of its faults.
+//! What the outside gives and takes: sources, sinks, doors, links, clocks and disks, all but clocks with a count of faults.
 //!
 //! Each device is a trait whose ghost members are what it may tell, and a failure comes only where its count of faults
 //! rose. A form in memory tells all, and its methods say exactly when they fail and what they leave, by a script of its

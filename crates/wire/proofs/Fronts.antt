@@ -1,6 +1,6 @@
 -- A front only grows, and a cut one stays.
 use Rattle.std.proofs.Common.{◌≡◌, ◌≢◌, ℕ, zero, suc, ◌+◌, ◌-◌, ◌<◌, ◌≤◌, ◌⊎◌, inl, inr, ⊎_elim, Bool, true, false, cond, ◌||◌, nat_le, ◌==◌, List, [], ◌∷◌, ◌++◌, length, take, drop, min, get_or, add-one, arith, rules, refl, sym, ◌∙◌, ap, subst, append_assoc, length-append, true≢false}
-use Rattle.std.proofs.lemmas.List.{append-nil, length-take, take_all, take-append-drop, take-append-le, take-take}
+use Rattle.std.proofs.lemmas.List.{append-nil, length-take, nil_from_length, take_all, take-append-drop, take-append-le, take-take}
 use Rattle.std.proofs.lemmas.List.Sums.{sum_by-cons}
 use Rattle.std.proofs.lemmas.Grind.{common_steps}
 use Rattle.std.proofs.lemmas.Bool.{cases_lt, eq-eqb, ne_eqb}
@@ -175,3 +175,13 @@ front_lines_few b =
     let t = take (up_to 66 b) b in
     let parts = ap line_feeds (take-append-drop 16384 t) in
     omega (arith, up_to_lines b 66, parts, line_feeds-append (take 16384 t) (drop 16384 t))
+
+-- the front where the first bytes have few lines: these bytes
+pub front_near : (b : List ℕ) (end : ℕ) → end ≡ min (length b) 16384 → line_feeds (take end b) < 66 → front b ≡ take end b
+front_near b end is few =
+    let long : length (take end b) ≡ min end (length b) = length-take end b in
+    let g = front_has (take end b) (drop end b) (omega (arith, long, is)) few in
+    let whole : front b ≡ take end b ++ g.0 = ap front (sym (take-append-drop end b)) ∙ g.1 in
+    let within = front_within b in
+    let none : length g.0 ≡ 0 = omega (arith, ap length whole, length-append (take end b) g.0, long, is, within.0, within.1) in
+    whole ∙ ap (λ x. take end b ++ x) (nil_from_length g.0 none) ∙ append-nil (take end b)

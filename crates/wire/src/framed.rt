@@ -56,7 +56,8 @@ pub trait Framed {
 
 /// What stands at the front of these bytes.
 ///
-/// Most heads are short, so the front is looked for only where no short one stands there.
+/// Most heads are short, so the front is looked for only where no short one stands there, or the first bytes have too many
+/// lines or no head can come of them.
 pub fn start_of<M: Framed>(bytes: &[u8]) -> Start<M::Parts>
     ensures { Starts M.is_at M.is_hopeless M.are_parts (front bytes.now) result }
 {
@@ -64,6 +65,7 @@ pub fn start_of<M: Framed>(bytes: &[u8]) -> Start<M::Parts>
     let near = &bytes[..bytes.len().min(MOST_BYTES)];
     match M::parse(near, &mut fields) {
         Start::Found(found) if count_lines(&near[..found.size]) < MOST_LINES => Start::Found(found),
+        Start::Open if count_lines(near) < MOST_LINES => Start::Open,
         _ => M::parse(front_of(bytes), &mut fields),
     }
 }
