@@ -15,7 +15,6 @@ use Rattle.chf_core.specs.declared.refusal.ChfRefusal.TheVariants.{SessionClosed
 use Rattle.chf_core.specs.declared.session.Session.{Session}
 use Rattle.chf_core.specs.declared.key.Name.{Name}
 use Rattle.chf_core.specs.declared.key.Key.{Key}
-use Rattle.chf_core.specs.Operator.{name_eq}
 use Rattle.chf_core.specs.Sessions.{sessions, sessions_after, opened, write_session, with_last, by_reference, session_at, same_session, name, id_of, supi_of, account_for, opens_by, reference_of, session_for, named_by}
 use Rattle.chf_core.specs.Keys.{key, key_by, key_in, key_of}
 use Rattle.chf_core.specs.Money.{first_reply, reply_by, created}
@@ -28,8 +27,9 @@ use Rattle.chf_core.specs.Standing.{IsBy, IsByKept}
 use Rattle.chf_core.proofs.JoinedParts.{sessions_are, references_are}
 use Rattle.chf_core.proofs.JoinedRequests.{decision_is}
 use Rattle.chf_core.proofs.Places.{eq_yes}
-use Rattle.chf_core.proofs.Named.{same_name, same_number}
-use Rattle.chf_core.proofs.SessionLists.{at_push, at_set, same_itself, names_same, fails}
+use Rattle.chf_core.proofs.Named.{same_number}
+use Rattle.chf_core.proofs.SessionLists.{at_push, at_set, same_itself, names_same, fails, of_key}
+use Rattle.chf_core.proofs.Entered.{fresh_key}
 use Rattle.chf_core.proofs.Keyed.{fresh_place}
 
 pub record AreBySession (a : List Command) : Type 0 where
@@ -286,25 +286,11 @@ module _ (a : List Command) (q : Request) (h : AreBySession a) (p : ℕ) (x : Se
 
 -- ---- a fresh request
 
-has_key : (a : List Command) (q : Request) (o : Outcome) (w : Option Key) → at_key a q w ≡ Fresh o
-    → (k : Key) × (w ≡ Some k)
-has_key a q o None e = absurd (cc)
-has_key a q o (Some k) e = (k, refl)
-
 -- under a key that has no place
 is_new : (a : List Command) (q : Request) (o : Outcome) (k : Key) → key_of a q ≡ Some k
     → decision a (Charge q) ≡ Fresh o → at_new q.operation a q (named_by q.operation a q) ≡ Fresh o
 is_new a q o k w d =
     sym (ap (at_key a q) w ∙ ap (at_place a q (named_by q.operation a q)) (fresh_place a q k o w d)) ∙ d
-
-of_key : (q : Request) (x : Session) (k : Key) → key_in q (Some x) ≡ Some k → k.session ≡ name_of x
-of_key q x k e = by (name_eq x.consumer q.consumer) refl e
-  where
-    by : (b : Bool) → name_eq x.consumer q.consumer ≡ b
-        → cond b (Some (key q.consumer x.charging_id q.number)) None ≡ Some k → k.session ≡ name_of x
-    by true t w = let g : key q.consumer x.charging_id q.number ≡ k = cc in sym (ap (λ (j : Key). j.session) g)
-        ∙ ap (λ c. name c x.charging_id) (sym (same_name x.consumer q.consumer t))
-    by false t w = absurd (cc)
 
 -- an Update or Release is fresh in an open session alone
 goes_on : (a : List Command) (q : Request) (o : Outcome) (z : Option Session) → at_new_later a q z ≡ Fresh o
@@ -364,7 +350,7 @@ one_more : (a : List Command) (q : Request) (o : Outcome) → AreBySession a →
 one_more a q o h d = from (by q.operation refl (is_new a q o k.0 k.1 d))
   where
     k : (k : Key) × (key_of a q ≡ Some k)
-    k = has_key a q o (key_of a q) d
+    k = fresh_key a q o d
 
     by : (op : Operation) → q.operation ≡ op → at_new q.operation a q (named_by q.operation a q) ≡ Fresh o
         → Steps a q op (account_for a q.subscriber) (sessions_after op q (account_for a q.subscriber) (sessions a))

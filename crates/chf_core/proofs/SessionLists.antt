@@ -1,10 +1,14 @@
 -- Sessions by their references: one more, and one that is written over; and their names.
 use Rattle.std.proofs.Common.{◌≡◌, ◌≢◌, ◌==◌, ◌&&◌, ℕ, ◌+◌, ◌-◌, Bool, true, false, cond, List, [], ◌∷◌, ◌++◌, length, slice_get, slice_set, Some, None, option_map, refl, sym, ap, ◌∙◌, arith, ⊎_elim}
 use Rattle.std.proofs.lemmas.Bool.{cases_eq}
+use Rattle.units.specs.declared.request.Request.{Request}
 use Rattle.chf_core.specs.declared.session.Session.{Session}
 use Rattle.chf_core.specs.declared.key.Name.{Name}
+use Rattle.chf_core.specs.declared.key.Key.{Key}
 use Rattle.chf_core.specs.Operator.{name_eq}
-use Rattle.chf_core.specs.Sessions.{by_reference, same_session}
+use Rattle.chf_core.specs.Sessions.{by_reference, name, same_session}
+use Rattle.chf_core.specs.Keys.{key, key_in}
+use Rattle.chf_core.specs.State.{name_of}
 use Rattle.chf_core.proofs.Places.{eq_yes, eq_no, get_push, get_set}
 use Rattle.chf_core.proofs.Named.{both, same_name, same_number}
 use Rattle.chf_core.proofs.NameLists.{itself}
@@ -72,3 +76,13 @@ names_same m n e =
 pub fails : (b : Bool) → (b ≡ true → ⊥) → b ≡ false
 fails true h = absurd (h refl)
 fails false h = refl
+
+-- a key that a session gives is of that session
+pub of_key : (q : Request) (x : Session) (k : Key) → key_in q (Some x) ≡ Some k → k.session ≡ name_of x
+of_key q x k e = by (name_eq x.consumer q.consumer) refl e
+  where
+    by : (b : Bool) → name_eq x.consumer q.consumer ≡ b
+        → cond b (Some (key q.consumer x.charging_id q.number)) None ≡ Some k → k.session ≡ name_of x
+    by true t w = let g : key q.consumer x.charging_id q.number ≡ k = cc in sym (ap (λ (j : Key). j.session) g)
+        ∙ ap (λ c. name c x.charging_id) (sym (same_name x.consumer q.consumer t))
+    by false t w = absurd (cc)
