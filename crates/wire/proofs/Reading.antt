@@ -3,7 +3,7 @@ use Rattle.std.proofs.Common.{◌≡◌, ◌≢◌, ℕ, ◌+◌, ◌≤◌, Boo
 use Rattle.std.proofs.lemmas.List.{append-nil, drop-append-le}
 use Rattle.std.specs.Io.KnownBytes.{Consumes, IsAtEnd}
 use Rattle.edge.specs.Connections.{Connection, after_read}
-use Rattle.wire.specs.Decisions.{HasFilled, IsReady}
+use Rattle.wire.specs.Decisions.{HasFilled, IsOfBytes, IsReady}
 use Rattle.wire.specs.Heads.{Begins, Decides, Head, Look, Whole, Bad, More}
 use Rattle.wire.specs.Held.{AnswersOrEnds, AnswersStream, HasRead, Held, Reads, ReadsOrEnds, UnlessRefused, is_read_fault}
 use Rattle.wire.specs.declared.framed.FoundHead.{FoundHead}
@@ -27,6 +27,15 @@ module _ {M : Type 0} (At : List ℕ → Head M → Type 0) (Hopeless : List ℕ
             (subst (λ h. Reads (Begins At Hopeless) h left_now result now) had_is reads);
         needed = λ decides. filled.needed (λ more. decides (subst (λ b. Begins At Hopeless b More) same more));
       }
+
+  -- a refusal of the bytes held
+  pub refuses : (had : List ℕ) (left : Option (List ℕ)) (now : Held) (refusal : WireRefusal) → Begins At Hopeless had (Bad refusal) → IsOfBytes refusal → now ≡ record { bytes = had; refused = true } → Reads (Begins At Hopeless) had left (Err refusal) now
+  refuses had left now BadHead bad of is = (bad, is)
+  refuses had left now (TooLong head) bad of is = (bad, is)
+  refuses had left now Chunked bad of is = (bad, is)
+  refuses had left now ReadFault bad of is = absurd of
+  refuses had left now (CutShort count) bad of is = absurd of
+  refuses had left now OutOfMemory bad of is = absurd of
 
   -- want of memory comes only where a whole message stands
   pub ready_exists : {P : Type 0} (Parts : P → List ℕ → Head M → Type 0) (bytes : List ℕ) (found : FoundHead P) (count : ℕ) → IsReady At Parts bytes found count → (message : M) × (size : ℕ) × Begins At Hopeless bytes (Whole message size)

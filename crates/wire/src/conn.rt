@@ -13,6 +13,7 @@ use crate::framed::{FoundHead, Framed};
 use crate::message::{HttpRequest, HttpResponse};
 use crate::refusal::WireRefusal;
 use edge::Source;
+use httparse::spans::{EMPTY_HEADER_SPAN, HeaderSpan};
 use std::alloc::{AllocError, Global};
 use std::marker::Model;
 use units::OutOfMemory;
@@ -22,14 +23,19 @@ use units::OutOfMemory;
 pub struct Conn {
     buffer: Buffer,
     refused: bool,
+    // places for the fields of a head that is parsed
+    fields: [HeaderSpan; 66],
 }
 
 impl Model for Conn {
+    ghost use Rattle.std.specs.Prelude.{◌≡◌, length};
     ghost use Rattle.wire.specs.Held.{Held};
 
     ghost Value = { Held };
 
     ghost view = { λ c. record { bytes = c.buffer.held; refused = c.refused } };
+
+    ghost invariant = { λ c. length c.fields ≡ 66 };
 }
 
 // Whether the source ended between messages.
@@ -65,6 +71,7 @@ impl Conn {
         Ok(Conn {
             buffer: Buffer::new(alloc)?,
             refused: false,
+            fields: [EMPTY_HEADER_SPAN; 66],
         })
     }
 
@@ -83,7 +90,7 @@ impl Conn {
         ensures openings { S.openings source.new ≡ S.openings source.old }
         ensures failed_openings { S.failed_openings source.new ≡ S.failed_openings source.old }
     {
-        match decide::<M, S>(&mut self.buffer, source) {
+        match decide::<M, S>(&mut self.buffer, &mut self.fields, source) {
             Ok(Decision::Message(found, count)) => match take_message::<M>(
                 alloc,
                 &mut self.buffer,

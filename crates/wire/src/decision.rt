@@ -14,6 +14,7 @@ use crate::framed::{FoundHead, Framed, Start, start_of};
 use crate::front::is_front_cut;
 use crate::refusal::WireRefusal;
 use edge::{Failed, Source};
+use httparse::spans::HeaderSpan;
 
 /// What reading decided.
 #[derive(Clone, Copy, Debug)]
@@ -73,8 +74,10 @@ fn with_body<M: Framed, S: Source>(
 /// Reads until the bytes held decide or the source is at its end.
 pub fn decide<M: Framed, S: Source>(
     buffer: &mut Buffer,
+    fields: &mut [HeaderSpan],
     source: &mut S,
 ) -> Result<Decision<M::Parts>, Failed>
+    requires { length fields.old ≡ 66 }
     ensures filled { HasFilled (λ bytes. Begins M.is_at M.is_hopeless bytes More) (has_failed result) buffer.old.held buffer.new.held (S.left source.old) (S.left source.new) (S.connections source.old) (S.connections source.new) }
     ensures decided { Decided M.is_at M.is_hopeless M.are_parts buffer.new.held (S.left source.new) result }
     ensures cause { FailsOnlyWithFault (S.faults source.old) (S.faults source.new) result }
@@ -83,7 +86,7 @@ pub fn decide<M: Framed, S: Source>(
     ensures failed_openings { S.failed_openings source.new ≡ S.failed_openings source.old }
 {
     loop {
-        match start_of::<M>(buffer.bytes()) {
+        match start_of::<M>(buffer.bytes(), fields) {
             Start::Found(found) => return match found.body {
                 Ok(count) => with_body::<M, S>(buffer, found, count, source),
                 Err(refusal) => Ok(Decision::Refused(refusal)),

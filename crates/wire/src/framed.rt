@@ -6,7 +6,7 @@ ghost use Rattle.wire.specs.Starts.{FindsHead, Starts};
 
 use crate::front::{MOST_BYTES, MOST_LINES, count_lines, front_of};
 use crate::refusal::WireRefusal;
-use httparse::spans::{EMPTY_HEADER_SPAN, HeaderSpan};
+use httparse::spans::HeaderSpan;
 use std::alloc::{AllocError, Global};
 
 /// A head: how many bytes it has, the length of the body that follows it or why it is refused, and where its parts lie.
@@ -54,18 +54,18 @@ pub trait Framed {
         ensures { (found : Head Self) → are_parts parts head.now found → IfOk result (λ message. message ≡ found.message body.now) };
 }
 
-/// What stands at the front of these bytes.
+/// What stands at the front of these bytes; the places for fields are written over.
 ///
 /// Most heads are short, so the front is looked for only where no short one stands there, or the first bytes have too many
 /// lines or no head can come of them.
-pub fn start_of<M: Framed>(bytes: &[u8]) -> Start<M::Parts>
+pub fn start_of<M: Framed>(bytes: &[u8], fields: &mut [HeaderSpan]) -> Start<M::Parts>
+    requires { length fields.old ≡ 66 }
     ensures { Starts M.is_at M.is_hopeless M.are_parts (front bytes.now) result }
 {
-    let mut fields = [EMPTY_HEADER_SPAN; 66];
     let near = &bytes[..bytes.len().min(MOST_BYTES)];
-    match M::parse(near, &mut fields) {
+    match M::parse(near, fields) {
         Start::Found(found) if count_lines(&near[..found.size]) < MOST_LINES => Start::Found(found),
         Start::Open if count_lines(near) < MOST_LINES => Start::Open,
-        _ => M::parse(front_of(bytes), &mut fields),
+        _ => M::parse(front_of(bytes), fields),
     }
 }
