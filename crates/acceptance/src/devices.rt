@@ -5,8 +5,8 @@ use edge::{MemSink, MemSource};
 use std::alloc::Global;
 use units::{List, OutOfMemory, Text};
 
-// The calls that fail, as numbers between commas.
-fn failing(alloc: Global, word: &str) -> Result<List<u32>, OutOfMemory> {
+/// The calls that fail, as numbers between commas.
+pub fn failing(alloc: Global, word: &str) -> Result<List<u32>, OutOfMemory> {
     let mut calls = List::new(alloc);
     for number in word.split(',') {
         if !number.is_empty() {

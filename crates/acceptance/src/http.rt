@@ -34,7 +34,8 @@ fn refusal(alloc: Global, refusal: WireRefusal) -> Result<String, OutOfMemory> {
     }
 }
 
-fn asked(alloc: Global, request: &HttpRequest) -> Result<String, OutOfMemory> {
+/// What a request is.
+pub fn asked(alloc: Global, request: &HttpRequest) -> Result<String, OutOfMemory> {
     let method = request.method.as_str();
     let path = request.path.as_str();
     let close = if request.close { "close" } else { "keep" };
@@ -42,7 +43,8 @@ fn asked(alloc: Global, request: &HttpRequest) -> Result<String, OutOfMemory> {
     Ok(format!(in alloc; "{method} {path} {close} {count}; ")?)
 }
 
-fn answered(alloc: Global, response: &HttpResponse) -> Result<String, OutOfMemory> {
+/// What a response is.
+pub fn answered(alloc: Global, response: &HttpResponse) -> Result<String, OutOfMemory> {
     let status = response.status;
     let location = match &response.location {
         Some(location) => location.as_str(),

@@ -3,6 +3,7 @@
 //! it, and at the end how many lines each table has.
 #![tactic(auto)]
 
+mod connections;
 mod devices;
 mod elements;
 mod events;
@@ -23,7 +24,7 @@ use units::OutOfMemory;
 const INPUT_LIMIT: usize = 1 << 24;
 
 /// The tables, by the words that begin their lines.
-const TABLES: [&str; 14] = [
+const TABLES: [&str; 18] = [
     "time",
     "stamp",
     "request",
@@ -36,12 +37,17 @@ const TABLES: [&str; 14] = [
     "events",
     "many-events",
     "devices",
+    "door",
+    "link",
+    "clock",
+    "loopback",
     "http-request",
     "http-response",
 ];
 
 // What is answered on a case.
-fn answer(alloc: Global, table: &str, fields: &[&str]) -> Result<String, OutOfMemory> {
+fn answer(rt: &HostRuntime, table: &str, fields: &[&str]) -> Result<String, OutOfMemory> {
+    let alloc = rt.alloc();
     match (table, fields) {
         ("time", [text]) => times::time(alloc, text),
         ("stamp", [octets]) => times::stamp(alloc, octets),
@@ -57,6 +63,14 @@ fn answer(alloc: Global, table: &str, fields: &[&str]) -> Result<String, OutOfMe
         ("devices", [words, input, reads, writes, room]) => {
             devices::devices(alloc, words, input, reads, writes, room)
         }
+        ("door", [bytes, room, fails, steps]) => {
+            connections::door(alloc, bytes, room, fails, steps)
+        }
+        ("link", [bytes, room, fails, steps]) => {
+            connections::link(alloc, bytes, room, fails, steps)
+        }
+        ("clock", [first, step, count]) => connections::clock(alloc, first, step, count),
+        ("loopback", [case]) => connections::loopback(rt, alloc, case),
         ("http-request", [octets]) => http::requests(alloc, octets),
         ("http-response", [octets]) => http::responses(alloc, octets),
         _ => Ok(String::from_str(alloc, "no such table")?),
@@ -64,11 +78,12 @@ fn answer(alloc: Global, table: &str, fields: &[&str]) -> Result<String, OutOfMe
 }
 
 // Looks at a line: what is answered, where that is not what is wanted.
-fn difference(alloc: Global, line: &str) -> Result<Option<String>, OutOfMemory> {
+fn difference(rt: &HostRuntime, line: &str) -> Result<Option<String>, OutOfMemory> {
+    let alloc = rt.alloc();
     let fields: Vec<&str> = line.split('\t').collect(alloc)?;
     match fields.as_slice() {
         [table, given @ .., wanted] => {
-            let got = answer(alloc, table, given)?;
+            let got = answer(rt, table, given)?;
             if got.as_str() == *wanted {
                 Ok(None)
             } else {
@@ -100,7 +115,7 @@ fn run(rt: &HostRuntime) -> io::Result<ExitCode> {
     };
     let lines = std::str::from_utf8(bytes.as_slice()).unwrap_or("");
     for line in lines.lines() {
-        match difference(alloc, line) {
+        match difference(rt, line) {
             Ok(None) => {}
             Ok(Some(got)) => println!(rt; "{line}\nanswers {got}")?,
             Err(OutOfMemory) => return Ok(ExitCode::from(9)),
