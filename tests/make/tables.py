@@ -1,8 +1,8 @@
 #!/usr/bin/env python3
 """tables.py: works the last column of crates/acceptance/stdin out anew, by models that know nothing of the program, and
 writes the counts of crates/acceptance/stdout. A new case is a line of stdin with anything in its last column. The tables
-once, quota, events, many-events, devices, door, link, clock and loopback have answers that were worked out by hand; their lines stay as they are. With
---check nothing is written, and a line whose answer is another is a failure.
+once, quota, events, many-events, devices, door, link, clock and loopback have answers by hand; their lines stay as they
+are. With --check nothing is written, and a line whose answer is another is a failure.
 """
 import sys
 from pathlib import Path
