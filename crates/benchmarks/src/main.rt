@@ -28,7 +28,7 @@ use crate::quota_turns::turns_of_use;
 use crate::rating_turns::prices;
 use crate::smf_turns::{meter_turns, smf_times, smf_turns};
 use crate::table_turns::table_turns;
-use crate::wire_turns::{parsed_heads, read_messages};
+use crate::wire_turns::{parsed_fronts, parsed_heads, read_messages};
 use edge::StreamSource;
 use rows::number;
 use std::alloc::Global;
@@ -87,6 +87,7 @@ fn checksum(alloc: Global, call: &str, numbers: &[u64]) -> Result<Option<u64>, O
         ("ber-sum", [count]) => Ok(Some(summed_records(alloc, *count)?)),
         ("wire-read", [piece, turns]) => Ok(Some(read_messages(alloc, *piece, *turns)?)),
         ("wire-parse", [turns]) => Ok(Some(parsed_heads(alloc, *turns)?)),
+        ("wire-fronts", [turns]) => Ok(Some(parsed_fronts(*turns))),
         ("quotas", [turns]) => Ok(Some(turns_of_use(alloc, *turns))),
         ("moments-read", [turns]) => Ok(Some(read_texts(*turns))),
         ("moments-write", [turns]) => Ok(Some(written_texts(*turns))),

@@ -93,3 +93,20 @@ pub fn parsed_heads(alloc: Global, turns: u64) -> Result<u64, OutOfMemory> {
     }
     Ok(count)
 }
+
+/// Reads each front of a request by `httparse` alone, as its parser makes a reader do to whom the request comes byte by byte, as
+/// often as `read_messages` reads one, and counts the whole heads.
+pub fn parsed_fronts(turns: u64) -> u64 {
+    let mut fields = [EMPTY_HEADER_SPAN; 66];
+    let mut count = 0u64;
+    for _ in 0..turns {
+        for _ in 0..REQUESTS {
+            for end in 1..REQUEST.len() {
+                if let Ok(Status::Complete(_)) = parse_request(&REQUEST[..end], &mut fields) {
+                    count = count.wrapping_add(1);
+                }
+            }
+        }
+    }
+    count
+}
