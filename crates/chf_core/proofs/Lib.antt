@@ -32,3 +32,4 @@ mod References
 mod SessionLists
 mod ByKept
 pub mod Drafting
+mod OwnKeys

@@ -14,7 +14,7 @@ owner_stands : (later a : List Command) (r : ℕ) (n : Lasting) → owner (sessi
 owner_stands [] a r n e = e
 owner_stands (c ∷ later) a r n e = keeps_one c (later ++ a) r n (owner_stands later a r n e)
 
-found_lasting : (o : Option Session) (z : Session) → option_map lasting o ≡ Some (lasting z)
+pub found_lasting : (o : Option Session) (z : Session) → option_map lasting o ≡ Some (lasting z)
     → (y : Session) × (o ≡ Some y) × IsSameSession y z
 found_lasting None z e = absurd (cc)
 found_lasting (Some y) z e =

@@ -29,3 +29,4 @@ pub mod After
 pub mod Joined
 pub mod Standing
 pub mod Drafts
+pub mod OfSessions

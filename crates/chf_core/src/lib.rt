@@ -45,6 +45,7 @@ mod reads;
 mod refusal;
 mod reply;
 mod session;
+mod session_laws;
 mod setup;
 mod subscription;
 mod target;
@@ -62,5 +63,7 @@ pub use laws::{
     ledger_is_whole, money_balances, numbers_are_used_once, repeats_get_first_replies,
     replies_stand, sums_are_bounded, use_within_grants_owes_nothing, verdicts_suit_commands,
 };
+pub use key::{Key, Name};
 pub use refusal::ChfRefusal;
+pub use session_laws::{kept_requests_grow, keys_stand};
 pub use setup::ChfSetup;

@@ -1,3 +1,4 @@
 pub mod Content
 pub mod Kept
 pub mod Trace
+pub mod Decided

@@ -1,0 +1,20 @@
+//! What holds of each charging session in every list of commands.
+ghost use Rattle.chf_core.specs.OfSessions.{CreatesHaveKeys, KeptGrow, KeysAreOwn, KeysStand, OwnAreKept, ReferencesName};
+
+/// A law of all lists of commands; it does nothing. The key of a request has the request's own consumer and number, and
+/// a Create has one; what a reference names stays, and the reference that a kept Create was given names its session
+/// (TS 32.291, 6.1.3.3; the key is this product's own).
+pub fn keys_stand()
+    ensures own { KeysAreOwn }
+    ensures creates { CreatesHaveKeys }
+    ensures stand { KeysStand }
+    ensures references { ReferencesName }
+{}
+
+/// A law of all lists of commands; it does nothing. A request comes to be kept with its first reply, in its own session,
+/// and no other command changes what is kept of a session (TS 32.290, 5.3.2; keeping first replies is this product's
+/// own).
+pub fn kept_requests_grow()
+    ensures each { KeptGrow }
+    ensures own { OwnAreKept }
+{}
