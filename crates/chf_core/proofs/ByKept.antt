@@ -26,15 +26,16 @@ use Rattle.chf_core.specs.After.{state_of, IsHistory}
 use Rattle.chf_core.specs.Standing.{IsBy, IsByKept}
 use Rattle.chf_core.proofs.JoinedParts.{sessions_are, references_are}
 use Rattle.chf_core.proofs.JoinedRequests.{decision_is}
-use Rattle.chf_core.proofs.Places.{eq_yes}
+use Rattle.chf_core.proofs.Places.{eq_yes, eq_no}
 use Rattle.chf_core.proofs.Named.{same_number}
-use Rattle.chf_core.proofs.SessionLists.{at_push, at_set, same_itself, names_same, fails, of_key}
+use Rattle.chf_core.proofs.SessionLists.{at_push, at_set, within, same_itself, names_same, fails, of_key}
 use Rattle.chf_core.proofs.Entered.{fresh_key}
 use Rattle.chf_core.proofs.Keyed.{fresh_place}
 
 pub record AreBySession (a : List Command) : Type 0 where
   pub back : (r : ℕ) (z : Session) → session_at a r ≡ Some z → reference_of a (name_of z) ≡ Some r
-  pub valid : (n : Name) (r : ℕ) → reference_of a n ≡ Some r → (z : Session) × (session_at a r ≡ Some z)
+  pub valid : (n : Name) (r : ℕ) → reference_of a n ≡ Some r
+      → (z : Session) × (session_at a r ≡ Some z) × (name_of z ≡ n)
   pub none : (n : Name) → reference_of a n ≡ None → accepted (kept_of a n) ≡ []
   pub some : (r : ℕ) (z : Session) → session_at a r ≡ Some z → IsBy z (accepted (kept_of a (name_of z)))
 
@@ -67,7 +68,7 @@ pub record Steps (a : List Command) (q : Request) (op : Operation) (account : Op
   pub valid : (n : Name) (r : ℕ)
       → cond (opens_by op account && same_session (name q.consumer (id_of q.charging_id)) n)
       (Some (length (sessions a) + 1)) (reference_of a n) ≡ Some r
-      → (z : Session) × (by_reference zz r ≡ Some z)
+      → (z : Session) × (by_reference zz r ≡ Some z) × (name_of z ≡ n)
   pub none : (n : Name)
       → cond (opens_by op account && same_session (name q.consumer (id_of q.charging_id)) n)
       (Some (length (sessions a) + 1)) (reference_of a n) ≡ None
@@ -140,7 +141,7 @@ module _ (a : List Command) (q : Request) (h : AreBySession a) (n : ℕ) where
         (λ (x : (by_reference (sessions a) r ≡ Some z) × (same_session mine (name_of z) ≡ false)).
         ap (λ b. cond b (Some (length (sessions a) + 1)) (reference_of a (name_of z))) x.1 ∙ h.back r z x.0)
         (one_of none r z w);
-    valid = λ m r w. found m r (same_session mine m) w;
+    valid = λ m r w. found m r (same_session mine m) refl w;
     none = λ m w.
         (let x = unnamed m (same_session mine m) refl w in other a q (same_session mine m) (reply_by Create a q)
         (kept_of a m) x.0 ∙ h.none m x.1);
@@ -157,22 +158,24 @@ module _ (a : List Command) (q : Request) (h : AreBySession a) (n : ℕ) where
         (one_of none r z w);
   }
     where
-      found : (m : Name) (r : ℕ) (b : Bool) → cond b (Some (length (sessions a) + 1)) (reference_of a m) ≡ Some r
-          → (z : Session) × (by_reference (sessions a ++ new ∷ []) r ≡ Some z)
-      found m r true w = let g : length (sessions a) + 1 ≡ r =
+      found : (m : Name) (r : ℕ) (b : Bool) → same_session mine m ≡ b
+          → cond b (Some (length (sessions a) + 1)) (reference_of a m) ≡ Some r
+          → (z : Session) × (by_reference (sessions a ++ new ∷ []) r ≡ Some z) × (name_of z ≡ m)
+      found m r true t w = let g : length (sessions a) + 1 ≡ r =
           cc in (
             new,
             at_push (sessions a) new r
                 ∙ ap (λ b. cond b (Some new) (by_reference (sessions a) r)) (eq_yes (length (sessions a) + 1) r g),
+            names_same mine m t,
           )
-      found m r false w = let f = h.valid m r w in two (length (sessions a) + 1 == r) refl f.0 f.1
-        where
-          two : (b : Bool) → (length (sessions a) + 1 == r) ≡ b → (y : Session) → by_reference (sessions a) r ≡ Some y
-              → (z : Session) × (by_reference (sessions a ++ new ∷ []) r ≡ Some z)
-          two true e y v =
-              (new, at_push (sessions a) new r ∙ ap (λ b. cond b (Some new) (by_reference (sessions a) r)) e)
-          two false e y v =
-              (y, at_push (sessions a) new r ∙ ap (λ b. cond b (Some new) (by_reference (sessions a) r)) e ∙ v)
+      found m r false t w = let f = h.valid m r w in (
+        f.0,
+        at_push (sessions a) new r
+            ∙ ap (λ b. cond b (Some new) (by_reference (sessions a) r))
+            (eq_no (length (sessions a) + 1) r (λ g. let z = within (sessions a) r f.0 f.1 in
+            let e : length (sessions a) + 1 ≡ r = g in omega arith)) ∙ f.1,
+        f.2,
+      )
 
       unnamed : (m : Name) (b : Bool) → same_session mine m ≡ b
           → cond b (Some (length (sessions a) + 1)) (reference_of a m) ≡ None
@@ -218,14 +221,23 @@ module _ (a : List Command) (q : Request) (h : AreBySession a) (p : ℕ) (x : Se
       )
 
   still_there : (r : ℕ) (z : Session) → by_reference (sessions a) r ≡ Some z
-      → (y : Session) × (by_reference (slice_set (sessions a) (p - 1) next) r ≡ Some y)
+      → (y : Session) × (by_reference (slice_set (sessions a) (p - 1) next) r ≡ Some y) × (name_of y ≡ name_of z)
   still_there r z w = by (p == r) refl
     where
-      by : (b : Bool) → (p == r) ≡ b → (y : Session) × (by_reference (slice_set (sessions a) (p - 1) next) r ≡ Some y)
+      by : (b : Bool) → (p == r) ≡ b
+          → (y : Session) × (by_reference (slice_set (sessions a) (p - 1) next) r ≡ Some y) × (name_of y ≡ name_of z)
       by true e =
-          (next, at_set (sessions a) p r x next at ∙ ap (λ b. cond b (Some next) (by_reference (sessions a) r)) e)
-      by false e =
-          (z, at_set (sessions a) p r x next at ∙ ap (λ b. cond b (Some next) (by_reference (sessions a) r)) e ∙ w)
+          let g : Some x ≡ Some z = sym at ∙ ap (by_reference (sessions a)) (same_number p r e) ∙ w in
+          let s : x ≡ z = cc in (
+            next,
+            at_set (sessions a) p r x next at ∙ ap (λ b. cond b (Some next) (by_reference (sessions a) r)) e,
+            ap name_of s,
+          )
+      by false e = (
+        z,
+        at_set (sessions a) p r x next at ∙ ap (λ b. cond b (Some next) (by_reference (sessions a) r)) e ∙ w,
+        refl,
+      )
 
   writes_one : (op : Operation) (account : Option ℕ) (k : Key) → opens_by op account ≡ false → key_by op a q ≡ Some k
       → k.session ≡ name_of x → is_success (reply_by op a q) ≡ true → is_release q.operation ≡ not live → x.is_open ≡ true
@@ -237,7 +249,8 @@ module _ (a : List Command) (q : Request) (h : AreBySession a) (p : ℕ) (x : Se
         (λ (y : (by_reference (sessions a) r ≡ Some z) × (same_session (name_of x) (name_of z) ≡ false)). h.back r z
         y.0)
         (place_of_one r z w);
-    valid = λ n r w. (let v = h.valid n r (sym (same_reference n) ∙ w) in still_there r v.0 v.1);
+    valid = λ n r w. (let v = h.valid n r (sym (same_reference n) ∙ w) in let y = still_there r v.0 v.1 in
+        (y.0, y.1, y.2 ∙ v.2));
     none = λ n w. (let e = sym (same_reference n) ∙ w in
         other a q (is_of (key_by op a q) n) (reply_by op a q) (kept_of a n)
         (of_it n ∙ fails (same_session (name_of x) n)

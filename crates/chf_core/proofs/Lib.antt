@@ -33,3 +33,4 @@ mod SessionLists
 mod ByKept
 pub mod Drafting
 mod OwnKeys
+mod Deciding

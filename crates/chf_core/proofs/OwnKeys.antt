@@ -75,6 +75,9 @@ module _ (a : List Command) (q : Request) (m n : Name) (h : HasKey a q m) where
   pub kept_elsewhere : same_session m n ≡ false → kept_of (Charge q ∷ a) n ≡ kept_of a n
   kept_elsewhere e = kept_where false e
 
+  pub kept_here : same_session m n ≡ true → kept_of (Charge q ∷ a) n ≡ with_first a q ∷ kept_of a n
+  kept_here e = kept_where true e
+
   next_of : (b : Bool) → same_session m n ≡ b → IsNextKept a (Charge q) n
   next_of false e = inl (kept_where false e)
   next_of true e = inr (q, refl, subst (HasKey a q) (names_same m n e) h, kept_where true e)

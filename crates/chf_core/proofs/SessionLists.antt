@@ -1,6 +1,7 @@
 -- Sessions by their references: one more, and one that is written over; and their names.
-use Rattle.std.proofs.Common.{◌≡◌, ◌≢◌, ◌==◌, ◌&&◌, ℕ, ◌+◌, ◌-◌, Bool, true, false, cond, List, [], ◌∷◌, ◌++◌, length, slice_get, slice_set, Some, None, option_map, refl, sym, ap, ◌∙◌, arith, ⊎_elim}
+use Rattle.std.proofs.Common.{◌≡◌, ◌≢◌, ◌==◌, ◌&&◌, ℕ, ◌<◌, ◌+◌, ◌-◌, Bool, true, false, cond, List, [], ◌∷◌, ◌++◌, length, slice_get, slice_set, Some, None, option_map, refl, sym, ap, ◌∙◌, arith, ⊎_elim}
 use Rattle.std.proofs.lemmas.Bool.{cases_eq}
+use Rattle.std.proofs.lemmas.Option.{slice_get_within}
 use Rattle.units.specs.declared.request.Request.{Request}
 use Rattle.chf_core.specs.declared.session.Session.{Session}
 use Rattle.chf_core.specs.declared.key.Name.{Name}
@@ -40,6 +41,11 @@ not_zero ss r z e = ⊎_elim
     (let h : None ≡ Some z = sym (ap (λ b. cond b None (slice_get ss (r - 1))) (eq_yes r 0 w)) ∙ e in cc))
     (λ (w : r ≢ 0). (w, sym (ap (λ b. cond b None (slice_get ss (r - 1))) (eq_no r 0 w)) ∙ e))
     (cases_eq r 0)
+
+-- a reference is within the sessions
+pub within : (ss : List Session) (r : ℕ) (z : Session) → by_reference ss r ≡ Some z → r < length ss + 1
+within ss r z e =
+    let f = not_zero ss r z e in let l = slice_get_within ss (r - 1) z f.1 in omega arith
 
 pub at_set : (ss : List Session) (p r : ℕ) (x y : Session) → by_reference ss p ≡ Some x
     → by_reference (slice_set ss (p - 1) y) r ≡ cond (p == r) (Some y) (by_reference ss r)

@@ -65,5 +65,5 @@ pub use laws::{
 };
 pub use key::{Key, Name};
 pub use refusal::ChfRefusal;
-pub use session_laws::{kept_requests_grow, keys_stand};
+pub use session_laws::{kept_requests_grow, keys_stand, sessions_decide};
 pub use setup::ChfSetup;

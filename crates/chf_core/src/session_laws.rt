@@ -1,5 +1,5 @@
 //! What holds of each charging session in every list of commands.
-ghost use Rattle.chf_core.specs.OfSessions.{CreatesHaveKeys, KeptGrow, KeysAreOwn, KeysStand, OwnAreKept, ReferencesName};
+ghost use Rattle.chf_core.specs.OfSessions.{CreatesHaveKeys, DecisionsByKept, KeptGrow, KeysAreOwn, KeysStand, OwnAreKept, ReferencesName, UnnamedAreRefused};
 
 /// A law of all lists of commands; it does nothing. The key of a request has the request's own consumer and number, and
 /// a Create has one; what a reference names stays, and the reference that a kept Create was given names its session
@@ -17,4 +17,13 @@ pub fn keys_stand()
 pub fn kept_requests_grow()
     ensures each { KeptGrow }
     ensures own { OwnAreKept }
+{}
+
+/// A law of all lists of commands that came to be; it does nothing. What is decided on a request follows from what its
+/// session keeps alone: its first reply where it is kept, with its mark or without, refused where its number has passed
+/// or its session exists or is closed, and else fresh; one of no session is refused (TS 32.290, 5.3.2; the order is this
+/// product's own).
+pub fn sessions_decide()
+    ensures unnamed { UnnamedAreRefused }
+    ensures named { DecisionsByKept }
 {}
