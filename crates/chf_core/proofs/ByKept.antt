@@ -43,7 +43,7 @@ pub record AreBySession (a : List Command) : Type 0 where
 
 module _ (a : List Command) (q : Request) where
   -- a kept request that is refused is not accepted
-  not_accepted : (b : Bool) (p : Reply) (l : List KeptRequest) → is_success p ≡ false
+  pub not_accepted : (b : Bool) (p : Reply) (l : List KeptRequest) → is_success p ≡ false
       → accepted (cond b (record { request = q; reply = p } ∷ l) l) ≡ accepted l
   not_accepted true p l e = ap (λ s. cond s (q ∷ accepted l) (accepted l)) e
   not_accepted false p l e = refl
@@ -300,13 +300,13 @@ module _ (a : List Command) (q : Request) (h : AreBySession a) (p : ℕ) (x : Se
 -- ---- a fresh request
 
 -- under a key that has no place
-is_new : (a : List Command) (q : Request) (o : Outcome) (k : Key) → key_of a q ≡ Some k
+pub is_new : (a : List Command) (q : Request) (o : Outcome) (k : Key) → key_of a q ≡ Some k
     → decision a (Charge q) ≡ Fresh o → at_new q.operation a q (named_by q.operation a q) ≡ Fresh o
 is_new a q o k w d =
     sym (ap (at_key a q) w ∙ ap (at_place a q (named_by q.operation a q)) (fresh_place a q k o w d)) ∙ d
 
 -- an Update or Release is fresh in an open session alone
-goes_on : (a : List Command) (q : Request) (o : Outcome) (z : Option Session) → at_new_later a q z ≡ Fresh o
+pub goes_on : (a : List Command) (q : Request) (o : Outcome) (z : Option Session) → at_new_later a q z ≡ Fresh o
     → (x : Session) × (z ≡ Some x) × (x.is_open ≡ true)
 goes_on a q o None e = absurd (cc)
 goes_on a q o (Some x) e = by (nat_le q.number x.last) e
@@ -325,7 +325,7 @@ goes_on a q o (Some x) e = by (nat_le q.number x.last) e
     by false w = by_open x.is_open refl w
 
 -- a Create is fresh where its name has no session
-is_unnamed : (a : List Command) (q : Request) (o : Outcome) → AreBySession a
+pub is_unnamed : (a : List Command) (q : Request) (o : Outcome) → AreBySession a
     → at_new_create a q (session_for a (reference_of a (name q.consumer (id_of q.charging_id)))) ≡ Fresh o
     → reference_of a (name q.consumer (id_of q.charging_id)) ≡ None
 is_unnamed a q o h e = by (reference_of a (name q.consumer (id_of q.charging_id))) refl e

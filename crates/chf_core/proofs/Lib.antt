@@ -34,3 +34,5 @@ mod ByKept
 pub mod Drafting
 mod OwnKeys
 mod Deciding
+mod SessionLines
+mod Switches

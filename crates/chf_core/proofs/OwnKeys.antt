@@ -133,6 +133,7 @@ opened_named a q (Some x) reference answer e =
           (eq_yes (length (sessions a) + 1) reference r),
       refl,
     )
+
 first_named : (a : List Command) (q : Request) (n : Name) → HasKey a q n → NamesIt (Charge q ∷ a) n (with_first a q)
 first_named a q n h reference answer = by q.operation refl
   where

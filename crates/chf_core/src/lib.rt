@@ -59,11 +59,11 @@ pub use histories::{
     histories_grow, references_stand, requests_are_answered, sessions_are_by_kept,
     states_are_joined,
 };
+pub use key::{Key, Name};
 pub use laws::{
     ledger_is_whole, money_balances, numbers_are_used_once, repeats_get_first_replies,
     replies_stand, sums_are_bounded, use_within_grants_owes_nothing, verdicts_suit_commands,
 };
-pub use key::{Key, Name};
 pub use refusal::ChfRefusal;
-pub use session_laws::{kept_requests_grow, keys_stand, sessions_decide};
+pub use session_laws::{kept_requests_grow, keys_stand, ledger_is_by_sessions, sessions_decide};
 pub use setup::ChfSetup;

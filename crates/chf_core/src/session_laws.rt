@@ -1,5 +1,5 @@
 //! What holds of each charging session in every list of commands.
-ghost use Rattle.chf_core.specs.OfSessions.{CreatesHaveKeys, DecisionsByKept, KeptGrow, KeysAreOwn, KeysStand, OwnAreKept, ReferencesName, UnnamedAreRefused};
+ghost use Rattle.chf_core.specs.OfSessions.{CreatesHaveKeys, DecisionsByKept, KeptGrow, KeysAreOwn, KeysStand, LedgerBySessions, OwnAreKept, ReferencesName, RepliesTellSwitches, UnnamedAreRefused};
 
 /// A law of all lists of commands; it does nothing. The key of a request has the request's own consumer and number, and
 /// a Create has one; what a reference names stays, and the reference that a kept Create was given names its session
@@ -26,4 +26,13 @@ pub fn kept_requests_grow()
 pub fn sessions_decide()
     ensures unnamed { UnnamedAreRefused }
     ensures named { DecisionsByKept }
+{}
+
+/// A law of all lists of commands that came to be; it does nothing. The lines of a session in the ledger are those of
+/// its accepted requests, the oldest first, on one account, at the prices of the setup; and each quota that is granted
+/// in a kept first reply tells the first switch after its request's time stamp (TS 32.290, 5.2.2; the ledger is this
+/// product's own).
+pub fn ledger_is_by_sessions()
+    ensures lines { LedgerBySessions }
+    ensures switches { RepliesTellSwitches }
 {}
