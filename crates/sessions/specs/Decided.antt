@@ -1,5 +1,5 @@
 -- What becomes of a request by what its session keeps: the kept requests, the newest first (TS 32.290, 5.3.2; the order of checks is this product's own).
-use Rattle.std.specs.Prelude.{ℕ, ◌==◌, nat_le, cond, List, [], ◌∷◌, Option, Some, None}
+use Rattle.std.specs.Prelude.{◌≡◌, ◌⊎◌, ℕ, ◌==◌, nat_le, cond, List, [], ◌∷◌, Option, Some, None}
 use Rattle.units.specs.declared.request.Operation.{Operation}
 use Rattle.units.specs.declared.request.Operation.TheVariants.{Create, Update, Release}
 use Rattle.units.specs.declared.request.Request.{Request}
@@ -49,3 +49,21 @@ decided_under kept q (Some k) = cond (same_content k.request q) (Repeats k.reply
 -- what becomes of a request
 abbrev pub decided : List Kept → Request → Decided
 decided kept q = decided_under kept q (kept_under kept q.number)
+
+-- with one kept request more
+abbrev pub more : List Kept → Request → Reply → List Kept
+more kept q reply = record { request = content q; reply = reply } ∷ kept
+
+-- a decision and a later one: a repeat gets the same reply, a refusal stays one, and a passed number has passed for good
+abbrev pub Stays : Decided → Decided → Type 0
+Stays (Repeats reply) d = d ≡ Repeats reply
+Stays (Passed last) d = (later : ℕ) × (d ≡ Passed later)
+Stays Exists d = (d ≡ Exists) ⊎ ((later : ℕ) × (d ≡ Passed later))
+Stays (Over last) d = d ≡ Over last
+Stays IsNew d = Unit {0}
+
+-- What is decided on a request stays when another that is new comes to be kept.
+abbrev pub DecisionsStay : Type 0
+DecisionsStay =
+    (kept : List Kept) (r q : Request) (reply : Reply) → decided kept r ≡ IsNew
+    → Stays (decided kept q) (decided (more kept r reply) q)

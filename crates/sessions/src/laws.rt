@@ -1,5 +1,6 @@
 //! What holds of all requests, and of all lists of kept requests.
 ghost use Rattle.sessions.specs.Content.{ContentsAreTold};
+ghost use Rattle.sessions.specs.Decided.{DecisionsStay};
 ghost use Rattle.sessions.specs.Kept.{FirstRepliesStand, NewRepliesAreFirst, TimesAddUp};
 
 /// A law of all requests; it does nothing. The test of contents tells whether two requests are the same but for the retransmission
@@ -19,4 +20,11 @@ pub fn first_replies_stand()
 /// earlier and in the later ones (this product's own).
 pub fn kept_requests_add_up()
     ensures { TimesAddUp }
+{}
+
+/// A law of kept requests; it does nothing. What is decided on a request by what its session keeps stays when another
+/// that is new comes to be kept: a repeat gets the same reply, and a refusal stays one (TS 32.290, 5.3.2; this product's
+/// own).
+pub fn decisions_stay()
+    ensures { DecisionsStay }
 {}
