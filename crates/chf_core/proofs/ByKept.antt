@@ -16,7 +16,7 @@ use Rattle.chf_core.specs.declared.session.Session.{Session}
 use Rattle.chf_core.specs.declared.key.Name.{Name}
 use Rattle.chf_core.specs.declared.key.Key.{Key}
 use Rattle.chf_core.specs.Sessions.{sessions, sessions_after, opened, write_session, with_last, by_reference, session_at, same_session, name, id_of, supi_of, account_for, opens_by, reference_of, session_for, named_by}
-use Rattle.chf_core.specs.Keys.{key, key_by, key_in, key_of}
+use Rattle.chf_core.specs.Keys.{key_by, key_in, key_of}
 use Rattle.chf_core.specs.Money.{first_reply, reply_by, created}
 use Rattle.chf_core.specs.Decisions.{decision, at_key, at_place, at_new, at_new_create, at_new_later}
 use Rattle.chf_core.specs.KeptRequests.{is_of, kept_of, AreFresh}

@@ -6,23 +6,22 @@ use Rattle.units.specs.declared.request.Operation.{Operation}
 use Rattle.units.specs.declared.request.Operation.TheVariants.{Create, Update, Release}
 use Rattle.units.specs.declared.request.Request.{Request}
 use Rattle.units.specs.declared.answer.Answer.{Answer}
-use Rattle.units.specs.declared.reply.Reply.{Reply}
 use Rattle.units.specs.declared.reply.Reply.TheVariants.{Created}
 use Rattle.sessions.specs.Kept.{Kept as KeptRequest}
 use Rattle.chf_core.specs.declared.command.Command.{Command}
-use Rattle.chf_core.specs.declared.command.Command.TheVariants.{Setup, Charge, Subscriber, TopUp, Expire}
+use Rattle.chf_core.specs.declared.command.Command.TheVariants.{Charge}
 use Rattle.chf_core.specs.declared.session.Session.{Session}
 use Rattle.chf_core.specs.declared.key.Name.{Name}
 use Rattle.chf_core.specs.declared.key.Key.{Key}
 use Rattle.chf_core.specs.Operator.{name_eq}
 use Rattle.chf_core.specs.Sessions.{id_of, supi_of, name, same_session, account_for, sessions, opened, sessions_after, by_reference, session_at}
 use Rattle.chf_core.specs.Keys.{key, key_in, key_by, key_of}
-use Rattle.chf_core.specs.Money.{first_reply, reply_by, created}
+use Rattle.chf_core.specs.Money.{reply_by, created}
 use Rattle.chf_core.specs.KeptRequests.{is_of, kept_of}
 use Rattle.chf_core.specs.State.{name_of}
 use Rattle.chf_core.specs.OfSessions.{HasKey, IsReferenceOf, IsNextKept, with_first}
 use Rattle.chf_core.proofs.Places.{eq_yes}
-use Rattle.chf_core.proofs.Named.{Lasting, lasting, owner, keeps_one, key_stays, same_name}
+use Rattle.chf_core.proofs.Named.{lasting, keeps_one, key_stays}
 use Rattle.chf_core.proofs.SessionLists.{at_push, same_itself, names_same}
 use Rattle.chf_core.proofs.References.{found_lasting}
 

@@ -1,6 +1,5 @@
 -- The lines of a session are those of its accepted requests.
 use Rattle.std.proofs.Common.{◌≡◌, ◌≢◌, ◌⊎◌, ◌==◌, ◌&&◌, ℕ, suc, ◌+◌, ◌-◌, Bool, true, false, cond, List, [], ◌∷◌, ◌++◌, map, length, slice_get, Option, Some, None, option_map, refl, sym, ap, ◌∙◌, subst, arith, inl, inr, ⊎_elim}
-use Rattle.std.specs.List.{filter}
 use Rattle.std.proofs.lemmas.Bool.{cases_eq}
 use Rattle.std.proofs.lemmas.Option.{slice_get_past}
 use Rattle.std.proofs.lemmas.List.Elements.{filter-append}
@@ -22,21 +21,21 @@ use Rattle.chf_core.specs.declared.command.Command.TheVariants.{Setup, Charge}
 use Rattle.chf_core.specs.declared.command.Outcome.{Outcome}
 use Rattle.chf_core.specs.declared.decision.Verdict.TheVariants.{Fresh}
 use Rattle.chf_core.specs.Operator.{setup_of}
-use Rattle.chf_core.specs.Sessions.{id_of, name, same_session, account_for, sessions, sessions_after, opened, session_at, reference_of, opens_by, named_by}
+use Rattle.chf_core.specs.Sessions.{id_of, name, same_session, account_for, sessions, sessions_after, session_at, reference_of, opens_by, named_by}
 use Rattle.chf_core.specs.Keys.{key_of, key_by, key_in}
 use Rattle.chf_core.specs.Money.{first_reply, reply_by, created, rates_in, target_of, target_by, opened_target, named_target}
 use Rattle.chf_core.specs.Decisions.{decision, at_new, at_new_later}
-use Rattle.chf_core.specs.KeptRequests.{is_of, kept_of, AreFresh}
+use Rattle.chf_core.specs.KeptRequests.{is_of, kept_of}
 use Rattle.chf_core.specs.Ledger.{line_of, lines_of, lines_for, ledger}
 use Rattle.chf_core.specs.State.{name_of}
 use Rattle.chf_core.specs.After.{IsHistory}
-use Rattle.chf_core.specs.OfSessions.{HasKey, with_first, lines_by, lines_of_all, LinesAreOf}
+use Rattle.chf_core.specs.OfSessions.{HasKey, lines_by, lines_of_all, LinesAreOf}
 use Rattle.chf_core.proofs.Places.{eq_yes, eq_no}
 use Rattle.chf_core.proofs.Named.{same_number, Lasting, lasting, owner, keeps_one, pushed_owner}
-use Rattle.chf_core.proofs.SessionLists.{same_itself, names_same, fails, of_key}
+use Rattle.chf_core.proofs.SessionLists.{names_same, fails, of_key}
 use Rattle.chf_core.proofs.Entered.{fresh_key}
 use Rattle.chf_core.proofs.Keyed.{own_number}
-use Rattle.chf_core.proofs.OwnKeys.{own, creates, own_kept, kept_elsewhere, new_session}
+use Rattle.chf_core.proofs.OwnKeys.{creates, own_kept, kept_elsewhere, new_session}
 use Rattle.chf_core.proofs.ByKept.{AreBySession, by_session, are_fresh, is_new, is_unnamed, goes_on, not_accepted}
 
 rates : List Command → List (List (List ℕ))

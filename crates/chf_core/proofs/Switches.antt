@@ -1,11 +1,10 @@
 -- What is granted in a first reply has the first switch after its request's time stamp.
-use Rattle.std.proofs.Common.{◌≡◌, ◌⊎◌, ◌==◌, ℕ, suc, ◌+◌, Bool, true, false, cond, List, [], ◌∷◌, ◌++◌, length, Option, Some, None, is_some, refl, sym, ap, ◌∙◌, subst, arith, ⊎_elim}
+use Rattle.std.proofs.Common.{◌≡◌, ◌==◌, ℕ, suc, Bool, true, false, cond, List, [], ◌∷◌, length, Option, Some, None, refl, sym, subst, arith, ⊎_elim}
 use Rattle.std.specs.List.{All}
 use Rattle.std.proofs.lemmas.List.Elements.{All-nil, All-cons}
 use Rattle.units.specs.declared.request.Operation.{Operation}
 use Rattle.units.specs.declared.request.Operation.TheVariants.{Create, Update, Release}
 use Rattle.units.specs.declared.request.Request.{Request}
-use Rattle.units.specs.declared.answer.UnitInfo.{UnitInfo}
 use Rattle.sessions.specs.Kept.{Kept as KeptRequest}
 use Rattle.rating.specs.declared.terms.Terms.{Terms}
 use Rattle.rating.specs.declared.grant.Grant.{Grant}
@@ -19,7 +18,7 @@ use Rattle.chf_core.specs.declared.command.Command.TheVariants.{Setup, Charge}
 use Rattle.chf_core.specs.Operator.{setup_of}
 use Rattle.chf_core.specs.Sessions.{account_for}
 use Rattle.chf_core.specs.Effect.{Rating, asks_of, settled, granted, with_grant, terms_of, bare, quota_info, is_success, info_by, infos}
-use Rattle.chf_core.specs.Money.{first_reply, reply_by, created, rates_in, rating_of, target_of, infos_for, answer_of, money}
+use Rattle.chf_core.specs.Money.{reply_by, created, rates_in, rating_of, target_of, infos_for, answer_of, money}
 use Rattle.chf_core.specs.KeptRequests.{kept_of}
 use Rattle.chf_core.specs.After.{IsHistory}
 use Rattle.chf_core.specs.OfSessions.{HasKey, with_first, units_in, TellsSwitch}

@@ -1,7 +1,7 @@
 //! What holds of all lists of commands.
 ghost use Rattle.chf_core.specs.KeptRequests.{KeptAreKeyed, RepeatsGetFirstReplies};
 ghost use Rattle.chf_core.specs.Laws.{FirstOutcomes, FreshAreKept, KeptForGood};
-ghost use Rattle.chf_core.specs.MoneyLaws.{AccountsAreMoved, AccountsBalance, TopupsAreAdded, LedgerIsWhole};
+ghost use Rattle.chf_core.specs.MoneyLaws.{AccountsAreMoved, AccountsAreNamed, AccountsBalance, TopupsAreAdded, LedgerIsWhole};
 ghost use Rattle.chf_core.specs.WithinGrant.{UseWithinGrantsOwesNothing};
 ghost use Rattle.chf_core.specs.Bounds.{SumsAreBounded};
 ghost use Rattle.chf_core.specs.Verdicts.{VerdictsSuitCommands};
@@ -34,11 +34,13 @@ pub fn numbers_are_used_once()
 
 /// A law of all lists of commands; it does nothing. Of each account the balance and the ledger's lines are together its top-ups and what it
 /// owes, what is set aside is within the balance, and the top-ups are the sum of the amounts topped up; the accounts are those that the
-/// moves of the commands make, each of which was allowed where it was made (TS 32.290, 5.2.2; this product's own).
+/// moves of the commands make, each of which was allowed where it was made, and as many as the names of accounts (TS 32.290, 5.2.2; this
+/// product's own).
 pub fn money_balances()
     ensures balance { AccountsBalance }
     ensures topups { TopupsAreAdded }
     ensures moved { AccountsAreMoved }
+    ensures named { AccountsAreNamed }
 {
     accounts::accounts_balance();
     rating::reserves_suffice();

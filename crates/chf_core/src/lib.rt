@@ -10,7 +10,8 @@
 //! `specs/Caches`, tied to it key by key.
 //!
 //! The state that a list leaves is what later decisions and replies depend on, and nothing else (`specs/State`,
-//! `CommandMoves`, `Deciding`, `After`); the laws of `histories` join it to the list. `draft` works out once, as moves of
+//! `CommandMoves`, `Deciding`, `After`); the laws of `histories` join it to the list, those of `session_laws` say what
+//! holds of each session. `draft` works out once, as moves of
 //! money, what a request makes of the accounts.
 //!
 //! How it is built: `chf` has the public calls; `reads` look-ups; `verdict` the order of checks; `trial` and

@@ -3,6 +3,7 @@ use Rattle.accounts.specs.Ledger.{State, numbers}
 use Rattle.accounts.specs.Balanced.{IsBalanced}
 use Rattle.chf_core.specs.AccountMoves.{account_moves}
 use Rattle.chf_core.proofs.Moved.{made}
+use Rattle.chf_core.proofs.Counted.{accounts_named}
 use Rattle.chf_core.proofs.Allowed.{allowed}
 use Rattle.chf_core.proofs.laws.money_balances.Goals as goal
 
@@ -16,3 +17,6 @@ returns-clause-topups c = λ commands account.
 
 pub returns-clause-moved : goal.returns-clause-moved
 returns-clause-moved c = λ commands. record { made = made commands; allowed = allowed c.reserves_suffice.ensures.covered commands }
+
+pub returns-clause-named : goal.returns-clause-named
+returns-clause-named c = accounts_named
