@@ -90,10 +90,48 @@ units_since kind session group (Expire moment ∷ later) before = units_since ki
 abbrev pub owed_of : List (List (List ℕ)) → Target → List UnitUsage → ℕ → List Used → Used → State → ℕ
 owed_of rates t earlier group first c s = uncovered (charged_used rates t group first (charged rates t earlier s)) t.account (at t.session group) (price rates group c.up c.down c.seconds c.first)
 
--- While a grant stands, and the units used since are together within those granted, no part of what is charged for them is owed.
+-- a container that is charged after a grant: the commands before the request that was granted, that request and the commands after it; whom
+-- it charges; the group, its tariff and what it was granted; and, of the request that has the container, the entries and containers before it
+pub record Use : Type 0 where
+  pub before : List Command
+  pub request : Request
+  pub later : List Command
+  pub target : Target
+  pub group : ℕ
+  pub terms : GroupTariff
+  pub grant : Grant
+  pub entries : List UnitUsage
+  pub containers : List Used
+  pub container : Used
+
+-- the commands before it is charged
+abbrev pub commands_before : Use → List Command
+commands_before u = u.later ++ Charge u.request ∷ u.before
+
+-- the units that are charged since the grant, its own with them
+abbrev pub units_charged : Use → ℕ
+units_charged u =
+    units_since u.terms.terms.kind u.target.session u.group u.later (Charge u.request ∷ u.before)
+    + (units_in u.terms.terms.kind u.group u.entries
+    + units_of_used u.terms.terms.kind (u.containers ++ u.container ∷ []))
+
+-- what is owed of it
+abbrev pub owed : Use → ℕ
+owed u =
+    owed_of (rates_in (setup_of (commands_before u))) u.target u.entries u.group u.containers u.container
+    (money (commands_before u))
+
+-- it is within the grant: the setup's rows are a tariff, in which the group has these terms; the request was granted; the grant stands; and
+-- the units that are charged since are within those granted
+pub record IsWithinGrant (u : Use) : Type 0 where
+  pub sound : first_bad [] (rates_in (setup_of u.before)) ≡ None
+  pub rated : tariff (rates_in (setup_of u.before)) u.group ≡ Some u.terms
+  pub granted : IsGranted u.before u.request u.target u.group u.grant
+  pub stands :
+      grant_stands u.target.session u.group (deadline_of (rating_of u.before u.request) u.request.stamp u.group)
+      u.later (Charge u.request ∷ u.before) ≡ true
+  pub within : units_charged u ≤ u.grant.units
+
+-- Use within a grant owes nothing.
 abbrev pub UseWithinGrantsOwesNothing : Type 0
-UseWithinGrantsOwesNothing = (before later : List Command) (q : Request) (t : Target) (group : ℕ) (g : Grant) (terms : GroupTariff) (earlier : List UnitUsage) (first : List Used) (c : Used)
-    → first_bad [] (rates_in (setup_of before)) ≡ None → tariff (rates_in (setup_of before)) group ≡ Some terms → IsGranted before q t group g
-    → grant_stands t.session group (deadline_of (rating_of before q) q.stamp group) later (Charge q ∷ before) ≡ true
-    → units_since terms.terms.kind t.session group later (Charge q ∷ before) + (units_in terms.terms.kind group earlier + units_of_used terms.terms.kind (first ++ c ∷ [])) ≤ g.units
-    → owed_of (rates_in (setup_of (later ++ Charge q ∷ before))) t earlier group first c (money (later ++ Charge q ∷ before)) ≡ 0
+UseWithinGrantsOwesNothing = (u : Use) → IsWithinGrant u → owed u ≡ 0
