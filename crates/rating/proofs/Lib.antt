@@ -12,3 +12,4 @@ pub mod Steady
 pub mod Ranges
 pub mod Costs
 pub mod Reserves
+mod Few

@@ -1,5 +1,5 @@
 -- The ranges of the rows of a tariff.
-use Rattle.std.proofs.Common.{◌≡◌, ℕ, ◌-◌, ◌^◌, ◌≤◌, ◌&&◌, Bool, true, false, List, [], ◌∷◌, nat_le, Option, Some, None, All, IfSome, if◌then◌else◌, option_and_then, option_map, codes, nat_eq, refl, arith}
+use Rattle.std.proofs.Common.{◌≡◌, ℕ, ◌-◌, ◌^◌, ◌≤◌, ◌&&◌, Bool, true, false, List, [], ◌∷◌, nat_le, Option, Some, None, All, IfSome, if◌then◌else◌, option_and_then, option_map, slice_get, codes, nat_eq, refl, ap, subst, arith}
 use Rattle.std.specs.List.{filter_map, cons_option}
 use Rattle.std.specs.Cmp.Lexicographic.{pointwise}
 use Rattle.std.specs.Str.Parse.{digits_value}
@@ -11,8 +11,9 @@ use Rattle.rating.specs.declared.period.Period.{Period}
 use Rattle.rating.specs.declared.row.TariffRow.{TariffRow}
 use Rattle.rating.specs.declared.row.TariffRow.TheVariants.{Group, Price}
 use Rattle.units.specs.Words.{action_named}
-use Rattle.rating.specs.Row.{IsInRange, IsSmall, kind_of, chunk_of, group_row, price_row, tariff_row}
-use Rattle.rating.specs.Tariff.{tariff_rows, terms_of, periods, periods_by, periods_of, period_in}
+use Rattle.rating.specs.declared.terms.Kind.{Kind}
+use Rattle.rating.specs.Row.{IsInRange, IsSmall, AreSmall, most_chunk, kind_of, chunk_of, group_row, price_row, tariff_row}
+use Rattle.rating.specs.Tariff.{GroupTariff, tariff, tariff_rows, terms_of, terms_in, periods, periods_by, periods_of, period_in}
 use Rattle.rating.proofs.Steady.{AreOfDay}
 
 and_then : {A B : Type 0} (o : Option A) (f : A → Option B) (P : B → Type 0) → ((x : A) → o ≡ Some x → IfSome (f x) P) → IfSome (option_and_then f o) P
@@ -37,6 +38,17 @@ price_small group (hour ∷ up ∷ down ∷ seconds ∷ []) =
     record { hour = number_most 23 hour h eh; up = number_most (2 ^ 32) up u eu; down = number_most (2 ^ 32) down d ed; seconds = number_most (2 ^ 32) seconds s es })))))
 price_small group (a ∷ b ∷ c ∷ d ∷ e ∷ rest) = tt
 
+chunk_most : (kind : Kind) (bytes : List ℕ) (n : ℕ) → chunk_of kind bytes ≡ Some n → n ≤ most_chunk kind
+chunk_most kind bytes n h = by (number_of (most_chunk kind) bytes) refl h
+  where
+    of : (m : ℕ) → number_of (most_chunk kind) bytes ≡ Some m → (b : Bool) → (if b then None else Some m) ≡ Some n → n ≤ most_chunk kind
+    of m e true i = absurd (let f : None ≡ Some n = i in cc)
+    of m e false i = let same : m ≡ n = cc in let l = number_most (most_chunk kind) bytes m e in omega (arith, same, l)
+
+    by : (o : Option ℕ) → number_of (most_chunk kind) bytes ≡ o → option_and_then (λ m. if nat_eq m 0 then None else Some m) o ≡ Some n → n ≤ most_chunk kind
+    by None e i = absurd (let f : None ≡ Some n = i in cc)
+    by (Some m) e i = of m e (nat_eq m 0) i
+
 group_small : (group : List ℕ) (rest : List (List ℕ)) → IfSome (group_row group rest) IsInRange
 group_small group [] = tt
 group_small group (a ∷ []) = tt
@@ -45,7 +57,8 @@ group_small group (a ∷ b ∷ c ∷ []) = tt
 group_small group (a ∷ b ∷ c ∷ d ∷ []) = tt
 group_small group (a ∷ b ∷ c ∷ d ∷ e ∷ []) = tt
 group_small group (kind ∷ chunk ∷ threshold ∷ validity ∷ holding ∷ action ∷ []) =
-    and_then (number_of (2 ^ 32 - 1) group) _ IsInRange (λ g eg. and_then (kind_of kind) _ IsInRange (λ k ek. and_then (chunk_of k chunk) _ IsInRange (λ c ec. and_then (number_of (2 ^ 32 - 1) threshold) _ IsInRange (λ t et. and_then (number_of 604800 validity) _ IsInRange (λ v ev. and_then (number_of 604800 holding) _ IsInRange (λ h eh. and_then (action_named action) _ IsInRange (λ a ea. tt)))))))
+    and_then (number_of (2 ^ 32 - 1) group) _ IsInRange (λ g eg. and_then (kind_of kind) _ IsInRange (λ k ek. and_then (chunk_of k chunk) _ IsInRange (λ c ec. and_then (number_of (2 ^ 32 - 1) threshold) _ IsInRange (λ t et. and_then (number_of 604800 validity) _ IsInRange (λ v ev. and_then (number_of 604800 holding) _ IsInRange (λ h eh. and_then (action_named action) _ IsInRange (λ a ea.
+    record { chunk = chunk_most k chunk c ec; threshold = number_most (2 ^ 32 - 1) threshold t et; validity = number_most 604800 validity v ev; holding = number_most 604800 holding h eh })))))))
 group_small group (a ∷ b ∷ c ∷ d ∷ e ∷ f ∷ g ∷ rest) = tt
 
 pub row_small : (fields : List (List ℕ)) → IfSome (tariff_row fields) IsInRange
@@ -91,3 +104,29 @@ periods_small rows g = by (terms_of (tariff_rows rows) g)
 
 pub periods_of_day : (rows : List (List (List ℕ))) (g : ℕ) → AreOfDay (periods rows g)
 periods_of_day rows g = All-weaker IsSmall (λ (p : Period). p.hour ≤ 23) (λ p s. s.hour) (periods rows g) (periods_small rows g)
+
+terms_small : (g : ℕ) (r : TariffRow) → IsInRange r → IfSome (terms_in g r) AreSmall
+terms_small g (Price h p) small = tt
+terms_small g (Group h ts) small = by (nat_eq h g)
+  where
+    by : (b : Bool) → IfSome (if b then Some ts else None) AreSmall
+    by true = small
+    by false = tt
+
+first_of : (l : List Terms) (ts : Terms) → All AreSmall l → slice_get l 0 ≡ Some ts → AreSmall ts
+first_of [] ts all e = absurd (cc)
+first_of (x ∷ l) ts all e = let same : x ≡ ts = cc in subst AreSmall same (All-head AreSmall x l all)
+
+-- the terms of a group are in range
+pub group_terms_small : (rows : List (List (List ℕ))) (g : ℕ) (t : GroupTariff) → tariff rows g ≡ Some t → AreSmall t.terms
+group_terms_small rows g t e = by (terms_of (tariff_rows rows) g) refl e
+  where
+    by : (o : Option Terms) → terms_of (tariff_rows rows) g ≡ o
+        → option_map (λ ts. record { terms = ts; periods = periods_of (tariff_rows rows) g }) o ≡ Some t → AreSmall t.terms
+    by None f i = absurd (let w : None ≡ Some t = i in cc)
+    by (Some ts) f i =
+        let same : record { terms = ts; periods = periods_of (tariff_rows rows) g } ≡ t = cc in
+        let whole : ts ≡ t.terms = ap (λ (x : GroupTariff). x.terms) same in
+        subst AreSmall whole
+        (first_of (filter_map (terms_in g) (tariff_rows rows)) ts
+        (all_given (terms_in g) IsInRange AreSmall (terms_small g) (tariff_rows rows) (rows_small rows)) f)

@@ -4,6 +4,7 @@ use Rattle.units.specs.Cut.{NoSwitchWithin, whole_hour}
 use Rattle.units.specs.declared.request.Ask.{Ask}
 use Rattle.rating.specs.declared.terms.Kind.{Kind}
 use Rattle.rating.specs.declared.terms.Kind.TheVariants.{Volume, Time, Offline}
+use Rattle.rating.specs.Row.{AreSmall}
 use Rattle.rating.specs.Tariff.{GroupTariff, tariff}
 use Rattle.rating.specs.Grammar.{first_bad}
 use Rattle.rating.specs.Price.{price}
@@ -49,3 +50,12 @@ PricesAreBounded rows = (group up down seconds moment : ℕ) → price rows grou
 -- What is set aside for a grant is covered by the money that is free.
 abbrev pub GrantsAreCovered : List (List (List ℕ)) → Type 0
 GrantsAreCovered rows = (group free : ℕ) (ask : Ask) → (grant rows group free ask).reserve ≤ free
+
+-- The terms of a group are in their ranges.
+abbrev pub TermsAreSmall : List (List (List ℕ)) → Type 0
+TermsAreSmall rows = (group : ℕ) (t : GroupTariff) → tariff rows group ≡ Some t → AreSmall t.terms
+
+-- A grant has at most the units of its group's chunk.
+abbrev pub GrantsAreSmall : List (List (List ℕ)) → Type 0
+GrantsAreSmall rows =
+    (group free : ℕ) (ask : Ask) (t : GroupTariff) → tariff rows group ≡ Some t → (grant rows group free ask).units ≤ t.terms.chunk

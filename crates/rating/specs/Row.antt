@@ -5,6 +5,7 @@ use Rattle.rows.specs.Number.{number_of}
 use Rattle.units.specs.Words.{action_named}
 use Rattle.rating.specs.declared.terms.Kind.{Kind}
 use Rattle.rating.specs.declared.terms.Kind.TheVariants.{Volume, Time, Offline}
+use Rattle.rating.specs.declared.terms.Terms.{Terms}
 use Rattle.rating.specs.declared.period.Period.{Period}
 use Rattle.rating.specs.declared.row.TariffRow.{TariffRow}
 use Rattle.rating.specs.declared.row.TariffRow.TheVariants.{Group, Price}
@@ -56,7 +57,14 @@ pub record IsSmall (period : Period) : Type 0 where
   pub down : period.down ≤ 2 ^ 32
   pub seconds : period.seconds ≤ 2 ^ 32
 
+-- the ranges of terms: a chunk of at most the units of its kind, a threshold of 32 bits, and times of at most a week
+pub record AreSmall (terms : Terms) : Type 0 where
+  pub chunk : terms.chunk ≤ most_chunk terms.kind
+  pub threshold : terms.threshold ≤ 2 ^ 32 - 1
+  pub validity : terms.validity ≤ 604800
+  pub holding : terms.holding ≤ 604800
+
 -- so of a row
 abbrev pub IsInRange : TariffRow → Type 0
-IsInRange (Group group terms) = Unit {0}
+IsInRange (Group group terms) = AreSmall terms
 IsInRange (Price group period) = IsSmall period

@@ -1,6 +1,6 @@
 //! What holds of all tariffs.
 ghost use Rattle.std.specs.Prelude.{List, ℕ};
-ghost use Rattle.rating.specs.Laws.{GrantsAreCovered, GrantsArePaid, NextSwitchesAreFirst, PricesAreBounded, PricesChangeAtSwitches, ReservesSuffice, SwitchesAreWholeHours};
+ghost use Rattle.rating.specs.Laws.{GrantsAreSmall, TermsAreSmall, GrantsAreCovered, GrantsArePaid, NextSwitchesAreFirst, PricesAreBounded, PricesChangeAtSwitches, ReservesSuffice, SwitchesAreWholeHours};
 ghost use Rattle.rating.specs.Runs.{CutsArePricedRight, RunsArePricedRight};
 
 /// A law of all tariffs; it does nothing. A run of reports of a rating group with no switch of the group between their moments costs, as
@@ -32,4 +32,12 @@ pub fn reserves_suffice()
 /// their types (this product's own).
 pub fn prices_are_bounded()
     ensures { (rows : List (List (List ℕ))) → PricesAreBounded rows }
+{}
+
+/// A law of all tariffs; it does nothing. The terms of a rating group are in the ranges of their fields, and a grant has at
+/// most the units of its group's chunk, so that what is said of it is in the ranges of a reply (TS 32.291, 6.1.6.2.1.8; the
+/// ranges are this product's own).
+pub fn terms_are_in_range()
+    ensures terms { (rows : List (List (List ℕ))) → TermsAreSmall rows }
+    ensures grants { (rows : List (List (List ℕ))) → GrantsAreSmall rows }
 {}

@@ -29,6 +29,7 @@ mod terms;
 pub use grant::Grant;
 pub use laws::{
     prices_are_bounded, prices_change_at_switches, reserves_suffice, runs_are_priced_right,
+    terms_are_in_range,
 };
 pub use refusal::RatingRefusal;
 pub use tariffs::Tariffs;
