@@ -36,3 +36,4 @@ mod OwnKeys
 mod Deciding
 mod SessionLines
 mod Switches
+mod InRange

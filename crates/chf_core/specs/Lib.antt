@@ -30,3 +30,4 @@ pub mod Joined
 pub mod Standing
 pub mod Drafts
 pub mod OfSessions
+pub mod InRange

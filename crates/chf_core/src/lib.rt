@@ -66,5 +66,7 @@ pub use laws::{
     replies_stand, sums_are_bounded, use_within_grants_owes_nothing, verdicts_suit_commands,
 };
 pub use refusal::ChfRefusal;
-pub use session_laws::{kept_requests_grow, keys_stand, ledger_is_by_sessions, sessions_decide};
+pub use session_laws::{
+    first_replies_fit, kept_requests_grow, keys_stand, ledger_is_by_sessions, sessions_decide,
+};
 pub use setup::ChfSetup;

@@ -1,4 +1,5 @@
 //! What holds of each charging session in every list of commands.
+ghost use Rattle.chf_core.specs.InRange.{FirstRepliesFit};
 ghost use Rattle.chf_core.specs.OfSessions.{CreatesHaveKeys, DecisionsByKept, KeptGrow, KeysAreOwn, KeysStand, LedgerBySessions, OwnAreKept, ReferencesName, RepliesTellSwitches, UnnamedAreRefused};
 
 /// A law of all lists of commands; it does nothing. The key of a request has the request's own consumer and number, and
@@ -36,3 +37,11 @@ pub fn ledger_is_by_sessions()
     ensures lines { LedgerBySessions }
     ensures switches { RepliesTellSwitches }
 {}
+
+/// A law of all lists of commands; it does nothing. The first reply to a request in the ranges of its format is in those
+/// of a reply, so that it is written so that it reads back (TS 32.291, 6.1.6.2.1.6; the ranges are this product's own).
+pub fn first_replies_fit()
+    ensures { FirstRepliesFit }
+{
+    rating::terms_are_in_range();
+}

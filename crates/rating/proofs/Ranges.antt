@@ -57,19 +57,50 @@ group_small group (a ∷ b ∷ c ∷ []) = tt
 group_small group (a ∷ b ∷ c ∷ d ∷ []) = tt
 group_small group (a ∷ b ∷ c ∷ d ∷ e ∷ []) = tt
 group_small group (kind ∷ chunk ∷ threshold ∷ validity ∷ holding ∷ action ∷ []) =
-    and_then (number_of (2 ^ 32 - 1) group) _ IsInRange (λ g eg. and_then (kind_of kind) _ IsInRange (λ k ek. and_then (chunk_of k chunk) _ IsInRange (λ c ec. and_then (number_of (2 ^ 32 - 1) threshold) _ IsInRange (λ t et. and_then (number_of 604800 validity) _ IsInRange (λ v ev. and_then (number_of 604800 holding) _ IsInRange (λ h eh. and_then (action_named action) _ IsInRange (λ a ea.
-    record { chunk = chunk_most k chunk c ec; threshold = number_most (2 ^ 32 - 1) threshold t et; validity = number_most 604800 validity v ev; holding = number_most 604800 holding h eh })))))))
+    and_then (number_of (2 ^ 32 - 1) group) _ IsInRange (λ g eg. and_then (kind_of kind) _ IsInRange (λ k ek. and_then (chunk_of k chunk) _ IsInRange (λ c ec. and_then (number_of (2 ^ 32 - 1) threshold) _ IsInRange (λ t et. and_then (number_of 604800 validity) _ IsInRange (λ v ev. and_then (number_of 604800 holding) _ IsInRange (λ h eh. and_then (action_named action) _ IsInRange (λ a ea. tt)))))))
 group_small group (a ∷ b ∷ c ∷ d ∷ e ∷ f ∷ g ∷ rest) = tt
 
-pub row_small : (fields : List (List ℕ)) → IfSome (tariff_row fields) IsInRange
-row_small [] = tt
-row_small (a ∷ []) = tt
-row_small (word ∷ group ∷ rest) = by (pointwise nat_eq word (codes "group")) (pointwise nat_eq word (codes "price")) (group_small group rest) (price_small group rest)
+-- the terms of a group row are in range
+abbrev pub HasTerms : TariffRow → Type 0
+HasTerms (Group group terms) = AreSmall terms
+HasTerms (Price group period) = Unit {0}
+
+price_terms : (group : List ℕ) (rest : List (List ℕ)) → IfSome (price_row group rest) HasTerms
+price_terms group [] = tt
+price_terms group (a ∷ []) = tt
+price_terms group (a ∷ b ∷ []) = tt
+price_terms group (a ∷ b ∷ c ∷ []) = tt
+price_terms group (hour ∷ up ∷ down ∷ seconds ∷ []) =
+    and_then (number_of (2 ^ 32 - 1) group) _ HasTerms (λ g eg. and_then (number_of 23 hour) _ HasTerms (λ h eh. and_then (number_of (2 ^ 32) up) _ HasTerms (λ u eu. and_then (number_of (2 ^ 32) down) _ HasTerms (λ d ed. and_then (number_of (2 ^ 32) seconds) _ HasTerms (λ s es. tt)))))
+price_terms group (a ∷ b ∷ c ∷ d ∷ e ∷ rest) = tt
+
+group_terms : (group : List ℕ) (rest : List (List ℕ)) → IfSome (group_row group rest) HasTerms
+group_terms group [] = tt
+group_terms group (a ∷ []) = tt
+group_terms group (a ∷ b ∷ []) = tt
+group_terms group (a ∷ b ∷ c ∷ []) = tt
+group_terms group (a ∷ b ∷ c ∷ d ∷ []) = tt
+group_terms group (a ∷ b ∷ c ∷ d ∷ e ∷ []) = tt
+group_terms group (kind ∷ chunk ∷ threshold ∷ validity ∷ holding ∷ action ∷ []) =
+    and_then (number_of (2 ^ 32 - 1) group) _ HasTerms (λ g eg. and_then (kind_of kind) _ HasTerms (λ k ek. and_then (chunk_of k chunk) _ HasTerms (λ c ec. and_then (number_of (2 ^ 32 - 1) threshold) _ HasTerms (λ t et. and_then (number_of 604800 validity) _ HasTerms (λ v ev. and_then (number_of 604800 holding) _ HasTerms (λ h eh. and_then (action_named action) _ HasTerms (λ a ea.
+    record { chunk = chunk_most k chunk c ec; threshold = number_most (2 ^ 32 - 1) threshold t et; validity = number_most 604800 validity v ev; holding = number_most 604800 holding h eh })))))))
+group_terms group (a ∷ b ∷ c ∷ d ∷ e ∷ f ∷ g ∷ rest) = tt
+
+-- what holds of group rows and of price rows holds of each row
+row_by : (P : TariffRow → Type 0) → ((group : List ℕ) (rest : List (List ℕ)) → IfSome (group_row group rest) P)
+    → ((group : List ℕ) (rest : List (List ℕ)) → IfSome (price_row group rest) P)
+    → (fields : List (List ℕ)) → IfSome (tariff_row fields) P
+row_by P of_group of_price [] = tt
+row_by P of_group of_price (a ∷ []) = tt
+row_by P of_group of_price (word ∷ group ∷ rest) = by (pointwise nat_eq word (codes "group")) (pointwise nat_eq word (codes "price")) (of_group group rest) (of_price group rest)
   where
-    by : (a b : Bool) → IfSome (group_row group rest) IsInRange → IfSome (price_row group rest) IsInRange → IfSome (if a then group_row group rest else (if b then price_row group rest else None)) IsInRange
+    by : (a b : Bool) → IfSome (group_row group rest) P → IfSome (price_row group rest) P → IfSome (if a then group_row group rest else (if b then price_row group rest else None)) P
     by true b g p = g
     by false true g p = p
     by false false g p = tt
+
+pub row_small : (fields : List (List ℕ)) → IfSome (tariff_row fields) IsInRange
+row_small fields = row_by IsInRange group_small price_small fields
 
 -- what holds of each item that is given holds of all
 all_given : {X Y : Type 0} (h : X → Option Y) (Q : X → Type 0) (P : Y → Type 0) → ((x : X) → Q x → IfSome (h x) P) → (xs : List X) → All Q xs → All P (filter_map h xs)
@@ -105,7 +136,7 @@ periods_small rows g = by (terms_of (tariff_rows rows) g)
 pub periods_of_day : (rows : List (List (List ℕ))) (g : ℕ) → AreOfDay (periods rows g)
 periods_of_day rows g = All-weaker IsSmall (λ (p : Period). p.hour ≤ 23) (λ p s. s.hour) (periods rows g) (periods_small rows g)
 
-terms_small : (g : ℕ) (r : TariffRow) → IsInRange r → IfSome (terms_in g r) AreSmall
+terms_small : (g : ℕ) (r : TariffRow) → HasTerms r → IfSome (terms_in g r) AreSmall
 terms_small g (Price h p) small = tt
 terms_small g (Group h ts) small = by (nat_eq h g)
   where
@@ -116,6 +147,11 @@ terms_small g (Group h ts) small = by (nat_eq h g)
 first_of : (l : List Terms) (ts : Terms) → All AreSmall l → slice_get l 0 ≡ Some ts → AreSmall ts
 first_of [] ts all e = absurd (cc)
 first_of (x ∷ l) ts all e = let same : x ≡ ts = cc in subst AreSmall same (All-head AreSmall x l all)
+
+rows_terms : (rows : List (List (List ℕ))) → All HasTerms (tariff_rows rows)
+rows_terms rows =
+    all_given tariff_row (λ fields. Unit {0}) HasTerms (λ fields u. row_by HasTerms group_terms price_terms fields) rows
+    (λ k d l. tt)
 
 -- the terms of a group are in range
 pub group_terms_small : (rows : List (List (List ℕ))) (g : ℕ) (t : GroupTariff) → tariff rows g ≡ Some t → AreSmall t.terms
@@ -129,4 +165,4 @@ group_terms_small rows g t e = by (terms_of (tariff_rows rows) g) refl e
         let whole : ts ≡ t.terms = ap (λ (x : GroupTariff). x.terms) same in
         subst AreSmall whole
         (first_of (filter_map (terms_in g) (tariff_rows rows)) ts
-        (all_given (terms_in g) IsInRange AreSmall (terms_small g) (tariff_rows rows) (rows_small rows)) f)
+        (all_given (terms_in g) HasTerms AreSmall (terms_small g) (tariff_rows rows) (rows_terms rows)) f)

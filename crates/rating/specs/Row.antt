@@ -66,5 +66,5 @@ pub record AreSmall (terms : Terms) : Type 0 where
 
 -- so of a row
 abbrev pub IsInRange : TariffRow → Type 0
-IsInRange (Group group terms) = AreSmall terms
+IsInRange (Group group terms) = Unit {0}
 IsInRange (Price group period) = IsSmall period
