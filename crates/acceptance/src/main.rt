@@ -5,6 +5,7 @@
 
 mod connections;
 mod devices;
+mod disks;
 mod elements;
 mod events;
 mod http;
@@ -24,7 +25,7 @@ use units::OutOfMemory;
 const INPUT_LIMIT: usize = 1 << 24;
 
 /// The tables, by the words that begin their lines.
-const TABLES: [&str; 18] = [
+const TABLES: [&str; 20] = [
     "time",
     "stamp",
     "request",
@@ -41,6 +42,8 @@ const TABLES: [&str; 18] = [
     "link",
     "clock",
     "loopback",
+    "journal",
+    "file-disk",
     "http-request",
     "http-response",
 ];
@@ -71,6 +74,8 @@ fn answer(rt: &HostRuntime, table: &str, fields: &[&str]) -> Result<String, OutO
         }
         ("clock", [first, step, count]) => connections::clock(alloc, first, step, count),
         ("loopback", [case]) => connections::loopback(rt, alloc, case),
+        ("journal", [limit, payload]) => disks::journal(alloc, limit, payload),
+        ("file-disk", [name]) => disks::file_disk(rt, alloc, name),
         ("http-request", [octets]) => http::requests(alloc, octets),
         ("http-response", [octets]) => http::responses(alloc, octets),
         _ => Ok(String::from_str(alloc, "no such table")?),

@@ -2,7 +2,6 @@
 #![tactic(auto)]
 
 mod account_turns;
-mod disk_turns;
 mod draws;
 mod element_turns;
 mod journal_turns;
@@ -16,7 +15,6 @@ mod table_turns;
 mod wire_turns;
 
 use crate::account_turns::charges;
-use crate::disk_turns::{print_bytes, print_file};
 use crate::element_turns::{hashed_records, read_records, summed_records, written_records};
 use crate::journal_turns::{append_to_file, list_of_file, print_stop};
 use crate::line_turns::parsed_lines;
@@ -114,8 +112,6 @@ fn journal(rt: &HostRuntime, call: &str, numbers: &[u64]) -> io::Result<Option<u
         ("journal-numbers", [count, size]) => append_to_file(rt, *count, *size, true),
         ("journal-read", []) => list_of_file(rt, false),
         ("journal-list", []) => list_of_file(rt, true),
-        ("journal-file", []) => print_file(rt),
-        ("journal-bytes", [limit]) => print_bytes(rt, (*limit).clamp(17, 1 << 30) as u32),
         ("journal-stop", [call, fill]) => print_stop(rt, (*call).min(1000) as u32, *fill),
         _ => Ok(None),
     }

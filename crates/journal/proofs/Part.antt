@@ -1,41 +1,33 @@
--- The first bytes of a disk tell what all of them do.
-use Rattle.std.proofs.Common.{◌≡◌, inl, inr, ⊎_elim, ℕ, ◌-◌, ◌≤◌, ◌^◌, min, List, ◌∷◌, ◌++◌, length, take, drop, sym, ◌∙◌, ap, arith, append_assoc, length-append, length-take, take-append-drop, take-take, take_all, take_at}
-use Rattle.std.proofs.lemmas.List.{take-append-le}
-use Rattle.std.specs.Int.{w32, from_be_bytes}
-use Rattle.journal.specs.Bytes.{front, Spells}
-use Rattle.journal.specs.Reads.{RunsPast, IsNoJournal}
-use Rattle.journal.proofs.Append.{below_or_not}
+-- What a read at a place gives of the bytes of a disk.
+use Rattle.std.proofs.Common.{◌≡◌, ℕ, ◌+◌, ◌-◌, ◌≤◌, ◌<◌, min, List, ◌++◌, length, get_or, take, drop, sym, ◌∙◌, ap, arith, length-drop, length-take, take-take}
+use Rattle.std.proofs.lemmas.List.{drop-take, get_or-drop, get_or-take, take-append-le}
+use Rattle.std.proofs.lemmas.Grind.{common_steps}
+use Rattle.std.specs.Int.{w32, to_be_bytes}
+use Rattle.journal.specs.Reads.{IsHeadAt}
+use Rattle.journal.specs.declared.entries.Head.{Head}
 
-joined : (n : ℕ) (b F rest : List ℕ) (g : ℕ) → take n b ≡ F ++ g ∷ rest → b ≡ F ++ g ∷ (rest ++ drop n b)
-joined n b F rest g is = sym (take-append-drop n b) ∙ ap (λ (l : List ℕ). l ++ drop n b) is ∙ append_assoc F (g ∷ rest) (drop n b)
+pub drop-add : (n m : ℕ) (xs : List ℕ) → drop (n + m) xs ≡ drop m (drop n xs)
+drop-add n m xs = grind (arith, common_steps)
 
-pub spells_part : (n : ℕ) (b : List ℕ) (list : List (List ℕ)) → Spells (take n b) list → Spells b list
-spells_part n b list s = record { gate = s.gate; closed = s.closed; rest = s.rest ++ drop n b; is = joined n b (front list) s.rest s.gate s.is; within = s.within }
+-- m bytes behind the j-th that was read
+pub part_read : (at j m n : ℕ) (b into now : List ℕ) → now ≡ take n (drop at b) ++ drop n into → n ≤ length b - at → j + m ≤ n → take m (drop j now) ≡ take m (drop (at + j) b)
+part_read at j m n b into now is count within =
+    let here : length (take n (drop at b)) ≡ n = omega (arith, count, length-take n (drop at b), length-drop at b) in
+    sym (drop-take j m now) ∙ ap (λ (l : List ℕ). drop j (take (j + m) l)) is
+    ∙ ap (λ (l : List ℕ). drop j l) (take-append-le (j + m) (take n (drop at b)) (drop n into) (omega (arith, here, within)) ∙ take-take (j + m) n (drop at b) within)
+    ∙ drop-take j m (drop at b) ∙ ap (λ (l : List ℕ). take m l) (sym (drop-add at j b))
 
-pub no_journal_part : (n : ℕ) (b : List ℕ) (at : ℕ) → n ≡ min (2 ^ 30) (length b) → IsNoJournal (take n b) at → IsNoJournal b at
-no_journal_part n b at most why = ⊎_elim
-    (λ other. inl (other.0, λ is. other.1 (let enough : 16 ≤ n = omega (arith, most, ap length is, length-take 16 b) in take-take 16 n b enough ∙ is)))
-    (λ more. inr (⊎_elim
-    (λ short. inl (short.0, (let all : length b ≤ n = omega (arith, most, ap length short.1, length-take n b) in sym (take_all n b all) ∙ short.1)))
-    (λ past. inr (runs past)) more))
-    why
-  where
-    runs : RunsPast (take n b) at → RunsPast b at
-    runs p = record {
-      list = p.list;
-      rest = p.rest ++ drop n b;
-      is = joined n b (front p.list) p.rest 1 p.is;
-      here = p.here;
-      within = p.within;
-      past = ⊎_elim
-          (λ whole. let same : take 4 (p.rest ++ drop n b) ≡ take 4 p.rest = take-append-le 4 p.rest (drop n b) whole in
-          omega (arith, most, p.past, length-take n b, ap (λ (l : List ℕ). from_be_bytes w32 l) same))
-          (λ few. omega (arith, most, p.here, ap length p.is, length-append (front p.list) (1 ∷ p.rest), length-take n b, few))
-          (below_or_not 4 (length p.rest));
-    }
+-- the first of some bytes
+first_of : (xs ys : List ℕ) → take 1 xs ≡ take 1 ys → get_or xs 0 0 ≡ get_or ys 0 0
+first_of xs ys same = sym (get_or-take 1 xs 0 0 (omega arith)) ∙ ap (λ (l : List ℕ). get_or l 0 0) same ∙ get_or-take 1 ys 0 0 (omega arith)
 
--- what was read
-pub read_is : (b into filled now rest : List ℕ) (n len : ℕ) → filled ≡ take n (drop 0 b) ++ drop n into → n ≡ min (length into) (length b - 0) → now ≡ take len (filled ++ rest) → length filled ≡ len → take n now ≡ take n b
-read_is b into filled now rest n len is count kept same =
-    let here : length (take n b) ≡ n = omega (arith, count, length-take n b) in
-    ap (λ (l : List ℕ). take n l) (kept ∙ take_at filled rest len same ∙ is) ∙ take_at (take n b) (drop n into) n here
+-- a head that was read as the last five bytes
+pub head_there : (at j n : ℕ) (b into now : List ℕ) (head : Head) → now ≡ take n (drop at b) ++ drop n into → n ≡ min (length into) (length b - at) → length into ≡ j + 5 → at + j < length b
+    → head.gate ≡ get_or now j 0 → to_be_bytes w32 head.size ≡ take 4 (drop (j + 1) now) → IsHeadAt b (at + j) head
+head_there at j n b into now head is count long here gate size = record {
+  gate = gate ∙ ap (λ (k : ℕ). get_or now k 0) (let sum : j ≡ j + 0 = omega arith in sum) ∙ sym (get_or-drop j now 0 0) ∙ first_of (drop j now) (drop (at + j) b) (part_read at j 1 n b into now is (omega (arith, count)) (omega (arith, count, long, here))) ∙ get_or-drop (at + j) b 0 0
+      ∙ ap (λ (k : ℕ). get_or b k 0) (let sum : at + j + 0 ≡ at + j = omega arith in sum);
+  size = λ all.
+      size ∙ part_read at (j + 1) 4 n b into now is (omega (arith, count)) (omega (arith, count, long, all))
+      ∙ ap (λ (k : ℕ). take 4 (drop k b)) (let sum : at + (j + 1) ≡ at + j + 1 = omega arith in sum);
+}

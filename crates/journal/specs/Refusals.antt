@@ -6,8 +6,6 @@ use Rattle.edge.specs.declared.disk.DiskRefusal.TheVariants.{Failed, Fenced as D
 use Rattle.journal.specs.declared.refusal.JournalRefusal.{JournalRefusal}
 use Rattle.journal.specs.declared.refusal.JournalRefusal.TheVariants.{Fault, Fenced, Full, NotAJournal, EpochsSpent, OutOfMemory}
 use Rattle.journal.specs.Reads.{IsNoJournal}
-use Rattle.journal.specs.declared.entries.Unread.{Unread}
-use Rattle.journal.specs.declared.entries.Unread.TheVariants.{NotAJournal as NoJournal, OutOfMemory as NoMemory}
 use Rattle.journal.specs.State.{State, unsound}
 
 -- a disk's refusal, handed on
@@ -23,11 +21,6 @@ RefusesEntry epoch before now old new disk disk_now need (Full len n) = (len ≡
 RefusesEntry epoch before now old new disk disk_now need (NotAJournal at) = ⊥
 RefusesEntry epoch before now old new disk disk_now need EpochsSpent = ⊥
 RefusesEntry epoch before now old new disk disk_now need OutOfMemory = ⊥
-
--- why bytes were not read, handed on
-abbrev pub unread : Unread → JournalRefusal
-unread (NoJournal at) = NotAJournal at
-unread NoMemory = OutOfMemory
 
 -- The refusals of a reading: a fault of the disk, bytes that are no journal, or want of memory.
 abbrev pub RefusesReading : (content : Option (List ℕ)) (before now : ℕ) → JournalRefusal → Type 0

@@ -1,77 +1,97 @@
-//! The payloads that the bytes of a journal stand for.
-ghost use Rattle.std.specs.Prelude.{◌≡◌, ◌<◌, ◌≤◌, ◌+◌, ◌^◌, ⊤, List as Listed, ℕ, length, take, drop, IfOk, IfErr, MatchOption};
-ghost use Rattle.std.specs.Int.{w32, from_be_bytes};
-ghost use Rattle.journal.specs.Bytes.{front, sized, Spells};
-ghost use Rattle.journal.specs.Reads.{IsNoJournal, IfNoJournal};
+//! What stands on a journal's disk: its header, and its entries one after the other.
+ghost use Rattle.std.specs.Prelude.{◌≡◌, ◌↔◌, ◌<◌, ◌≤◌, ◌+◌, ◌^◌, ⊤, List as Listed, ℕ, min, length, take, drop, slice_index, IfOk, IfErr, IsTrue, OnOk, Some, is_some};
+ghost use Rattle.std.specs.Int.{w32, to_be_bytes};
+ghost use Rattle.edge.specs.Disk.{KeepsImages, Room, KeepsRoom};
+ghost use Rattle.journal.specs.Bytes.{header};
+ghost use Rattle.journal.specs.Reads.{IsHeadAt};
+ghost use Rattle.journal.specs.Refusals.{RefusesReading};
 
-use std::alloc::{AllocError, Global};
+use crate::refusal::JournalRefusal;
+use edge::Disk;
+use std::alloc::Global;
 use units::List;
 
 const HEADER: [u8; 16] = *b"CHARGING-JRNL-1\n";
 
-/// Why bytes were not read.
-#[derive(Clone, Copy, Debug, PartialEq, Eq)]
-pub enum Unread {
-    NotAJournal { at: u64 },
-    OutOfMemory,
+/// A gate, and the length behind it of the payload, where it is there.
+#[derive(Clone, Copy, Debug)]
+pub struct Head {
+    pub gate: u8,
+    pub size: u32,
 }
 
-impl From<AllocError> for Unread {
-    ghost use Rattle.std.specs.Prelude.{◌≡◌};
-    ghost use Rattle.journal.specs.declared.entries.Unread.TheVariants.{OutOfMemory};
-
-    ghost from_gives = { λ _ e. e ≡ OutOfMemory };
-
-    fn from(_: AllocError) -> Self {
-        Unread::OutOfMemory
-    }
+// Whether these bytes begin with the header.
+fn has_header(bytes: &[u8]) -> bool
+    ensures { IsTrue result ↔ (take 16 bytes.now ≡ header) }
+{
+    bytes.len() >= 16 && bytes[..16] == HEADER[..]
 }
 
-// The payload of the entry behind the gate at this place, where it and the gate after it are there.
-fn payload_at(bytes: &[u8], at: usize) -> Option<&[u8]>
-    requires { at < length bytes.now }
-    ensures { MatchOption result (length bytes.now < at + 6 + from_be_bytes w32 (take 4 (drop (at + 1) bytes.now)))
-        (λ p. (at + 6 + length p.now ≤ length bytes.now) × (sized p.now ≡ take (length p.now + 4) (drop (at + 1) bytes.now))) }
+// The gate and the length that the five bytes at a place tell.
+fn head_at(bytes: &[u8], at: usize) -> Head
+    requires { at + 5 ≤ length bytes.now }
+    ensures gate { result.gate ≡ slice_index bytes.now at }
+    ensures size { to_be_bytes w32 result.size ≡ take 4 (drop (at + 1) bytes.now) }
+    ensures small { result.size < 2 ^ 32 }
 {
     let rest = &bytes[at + 1..];
-    if rest.len() < 5 {
-        return None;
+    Head {
+        gate: bytes[at],
+        size: u32::from_be_bytes([rest[0], rest[1], rest[2], rest[3]]),
     }
-    let size = u32::from_be_bytes([rest[0], rest[1], rest[2], rest[3]]) as usize;
-    if rest.len() - 5 < size {
-        return None;
-    }
-    Some(&rest[4..size + 4])
 }
 
-// A list of these bytes.
-fn copy_of(alloc: Global, bytes: &[u8]) -> Result<List<u8>, AllocError>
-    ensures { IfOk result (λ l. l ≡ bytes.now) }
+/// Reads the header, of a disk of which so many bytes count, and the head behind it.
+pub fn read_first<D: Disk>(disk: &mut D, end: u64) -> Result<Head, JournalRefusal>
+    requires { (b : Listed ℕ) → D.content disk.old ≡ Some b → end ≡ min (length b) (2 ^ 30) }
+    ensures header { (b : Listed ℕ) → D.content disk.old ≡ Some b → OnOk result (take 16 b ≡ header) }
+    ensures head { (b : Listed ℕ) → D.content disk.old ≡ Some b → IfOk result (IsHeadAt b 16) }
+    ensures small { IfOk result (λ h. h.size < 2 ^ 32) }
+    ensures more { OnOk result (17 ≤ end) }
+    ensures refused { IfErr result (RefusesReading (D.content disk.old) (D.faults disk.old) (D.faults disk.new)) }
+    ensures same { OnOk result (D.content disk.new ≡ D.content disk.old) }
+    ensures tells { is_some (D.content disk.new) ≡ is_some (D.content disk.old) }
+    ensures epoch { D.told_epoch disk.new ≡ D.told_epoch disk.old }
+    ensures crash { KeepsImages (D.is_image disk.old) (D.is_image disk.new) }
+    ensures count { D.faults disk.old ≤ D.faults disk.new }
+    ensures openings { D.failed_openings disk.new ≡ D.failed_openings disk.old }
+    ensures room { KeepsRoom (D.faults disk.old) (D.faults disk.new) (D.room disk.old) (D.room disk.new) (λ r. ⊤) 0 }
 {
-    Ok(List::from_vec(bytes.to_vec(alloc)?))
+    let mut bytes = [0; 21];
+    disk.read(0, &mut bytes)?;
+    if end < 16 || !has_header(&bytes) {
+        return Err(JournalRefusal::NotAJournal { at: 0 });
+    }
+    if end == 16 {
+        return Err(JournalRefusal::NotAJournal { at: 16 });
+    }
+    Ok(head_at(&bytes, 16))
 }
 
-/// The payloads that these bytes stand for, and how many bytes there are up to and with the closed gate.
-pub fn read_list(alloc: Global, bytes: &[u8]) -> Result<(List<List<u8>>, u64), Unread>
-    requires { length bytes.now ≤ 2 ^ 30 }
-    ensures list { IfOk result (λ r. Spells bytes.now r.0) }
-    ensures end { IfOk result (λ r. length (front r.0) + 1 ≡ r.1) }
-    ensures refused { IfErr result (λ why. IfNoJournal why (IsNoJournal bytes.now)) }
+/// Reads a payload of so many bytes at a place, and the head behind it.
+pub fn read_entry<D: Disk>(
+    alloc: Global,
+    disk: &mut D,
+    at: u64,
+    size: usize,
+) -> Result<(List<u8>, Head), JournalRefusal>
+    requires { size < 2 ^ 32 }
+    ensures payload { (b : Listed ℕ) → D.content disk.old ≡ Some b → at + size < length b → IfOk result (λ r. r.0 ≡ take size (drop at b)) }
+    ensures head { (b : Listed ℕ) → D.content disk.old ≡ Some b → at + size < length b → IfOk result (λ r. IsHeadAt b (at + size) r.1) }
+    ensures small { IfOk result (λ r. r.1.size < 2 ^ 32) }
+    ensures all { IfOk result (λ r. length r.0 ≡ size) }
+    ensures refused { IfErr result (RefusesReading (D.content disk.old) (D.faults disk.old) (D.faults disk.new)) }
+    ensures same { OnOk result (D.content disk.new ≡ D.content disk.old) }
+    ensures tells { is_some (D.content disk.new) ≡ is_some (D.content disk.old) }
+    ensures epoch { D.told_epoch disk.new ≡ D.told_epoch disk.old }
+    ensures crash { KeepsImages (D.is_image disk.old) (D.is_image disk.new) }
+    ensures count { D.faults disk.old ≤ D.faults disk.new }
+    ensures openings { D.failed_openings disk.new ≡ D.failed_openings disk.old }
+    ensures room { KeepsRoom (D.faults disk.old) (D.faults disk.new) (D.room disk.old) (D.room disk.new) (λ r. ⊤) 0 }
 {
-    if bytes.len() < 16 || bytes[..16] != HEADER[..] {
-        return Err(Unread::NotAJournal { at: 0 });
-    }
-    if bytes.len() == 16 {
-        return Err(Unread::NotAJournal { at: 16 });
-    }
-    let mut list = List::new(alloc);
-    let mut at = 16;
-    while bytes[at] == 1 {
-        let Some(payload) = payload_at(bytes, at) else {
-            return Err(Unread::NotAJournal { at: at as u64 });
-        };
-        list.push(copy_of(alloc, payload)?)?;
-        at += payload.len() + 5;
-    }
-    Ok((list, at as u64 + 1))
+    let mut bytes = vec![in alloc; 0; size + 5]?;
+    disk.read(at, &mut bytes)?;
+    let head = head_at(&bytes, size);
+    bytes.truncate(size);
+    Ok((List::from_vec(bytes), head))
 }

@@ -6,13 +6,14 @@ ghost use Rattle.journal.specs.Reads.{IsNoJournal};
 ghost use Rattle.journal.specs.Lists.{EachStandsFor, Extends};
 ghost use Rattle.journal.specs.Refusals.{RefusesReading, RefusesView};
 
-use crate::entries::read_list;
+use crate::entries::{read_entry, read_first};
 use crate::refusal::JournalRefusal;
 use edge::Disk;
 use std::alloc::Global;
 use units::List;
 
-// Reads the payloads, of which the bytes are on the disk, and where the closed gate ends.
+// Reads the payloads, of which the bytes are on the disk, and where the closed gate ends. Each goes from the disk into its own
+// list, so that nothing is held twice.
 pub(crate) fn load<D: Disk>(
     alloc: Global,
     disk: &mut D,
@@ -29,11 +30,21 @@ pub(crate) fn load<D: Disk>(
     ensures openings { D.failed_openings disk.new ≡ D.failed_openings disk.old }
     ensures room { KeepsRoom (D.faults disk.old) (D.faults disk.new) (D.room disk.old) (D.room disk.new) (λ r. ⊤) 0 }
 {
-    let length = disk.length()?;
-    let size = length.min(1 << 30) as usize;
-    let mut bytes = vec![in alloc; 0; size]?;
-    let n = disk.read(0, &mut bytes)?;
-    Ok(read_list(alloc, &bytes[..n])?)
+    let end = disk.length()?.min(1 << 30);
+    let mut head = read_first(disk, end)?;
+    let mut list = List::new(alloc);
+    let mut at = 16;
+    while head.gate == 1 {
+        let size = u64::from(head.size);
+        if end < at + 6 + size {
+            return Err(JournalRefusal::NotAJournal { at });
+        }
+        let (payload, next) = read_entry(alloc, disk, at + 5, size as usize)?;
+        list.push(payload)?;
+        at += 5 + size;
+        head = next;
+    }
+    Ok((list, at + 1))
 }
 
 /// The payloads that the disk stands for. It writes and claims nothing.

@@ -1,6 +1,5 @@
 //! Why a journal did not do what it was asked.
 
-use crate::entries::Unread;
 use edge::{DiskRefusal, Failed};
 use std::alloc::AllocError;
 
@@ -54,19 +53,5 @@ impl From<AllocError> for JournalRefusal {
 
     fn from(_: AllocError) -> Self {
         JournalRefusal::OutOfMemory
-    }
-}
-
-impl From<Unread> for JournalRefusal {
-    ghost use Rattle.std.specs.Prelude.{◌≡◌};
-    ghost use Rattle.journal.specs.Refusals.{unread};
-
-    ghost from_gives = { λ u e. e ≡ unread u };
-
-    fn from(why: Unread) -> Self {
-        match why {
-            Unread::NotAJournal { at } => JournalRefusal::NotAJournal { at },
-            Unread::OutOfMemory => JournalRefusal::OutOfMemory,
-        }
     }
 }
