@@ -66,3 +66,23 @@ put_is tag e ts i n old mid start out e-is tag-is past mid-is start-is n-is so_f
     let start-all : start ≡ (old ++ identifier tag) ++ length_octets (length w) = start-is ∙ ap (λ (z : List ℕ). z ++ length_octets n) mid-is ∙ ap (λ (k : ℕ). (old ++ identifier tag) ++ length_octets k) n-is in
     out-is ∙ ap (λ (z : List ℕ). z ++ w) start-all ∙ append_assoc (old ++ identifier tag) (length_octets (length w)) w ∙ append_assoc old (identifier tag) (length_octets (length w) ++ w)
     ∙ ap (λ (z : List ℕ). old ++ z) (parts_written tag e ts e-is tag-is)
+
+-- how many octets an element takes, by its parts
+parts_counted : (tag : Tag) (e : Element) (ts : List Tlv) (n : ℕ) → e ≡ constructed tag.class tag.number (elements ts) → tag ≡ tag_is e → n ≡ length (written_all (elements ts))
+    → length (identifier tag) + (length (length_octets n) + length (written_all (elements ts))) ≡ length (written e)
+parts_counted tag e ts n e-is tag-is n-is =
+    let w : List ℕ = written_all (elements ts) in
+    let long : length (length_octets n) ≡ length (length_octets (length w)) = ap (λ (k : ℕ). length (length_octets k)) n-is in
+    omega (arith, long, ap length (parts_written tag e ts e-is tag-is), length-append (identifier tag) (length_octets (length w) ++ w), length-append (length_octets (length w)) w)
+
+-- where an element fits, the elements within it do behind its identifier and its length
+pub put_fits : (tag : Tag) (e : Element) (ts : List Tlv) (n at place start size : ℕ) → e ≡ constructed tag.class tag.number (elements ts) → tag ≡ tag_is e → place ≡ at + length (identifier tag)
+    → start ≡ place + length (length_octets n) → n ≡ length (written_all (elements ts)) → at + length (written e) ≤ size → start + length (written_all (elements ts)) ≤ size
+put_fits tag e ts n at place start size e-is tag-is place-is start-is n-is fits = omega (arith, place-is, start-is, fits, parts_counted tag e ts n e-is tag-is n-is)
+
+-- and it ends where the last of them does
+pub put_end : (tag : Tag) (e : Element) (ts : List Tlv) (i n at place start end : ℕ) → e ≡ constructed tag.class tag.number (elements ts) → tag ≡ tag_is e → length ts ≤ i → place ≡ at + length (identifier tag)
+    → start ≡ place + length (length_octets n) → n ≡ length (written_all (elements ts)) → end + length (written_all (elements (drop i ts))) ≡ start + length (written_all (elements ts)) → end ≡ at + length (written e)
+put_end tag e ts i n at place start end e-is tag-is past place-is start-is n-is so_far =
+    let none : length (written_all (elements (drop i ts))) ≡ 0 = at_drop_all (λ (xs : List Tlv). length (written_all (elements xs))) ts i past in
+    omega (arith, place-is, start-is, so_far, none, parts_counted tag e ts n e-is tag-is n-is)

@@ -26,6 +26,7 @@ abbrev mutual
   element_of class number (Primitive contents) = primitive class number contents
   element_of class number (Constructed' shape all) = constructed class number (row_of all)
 
+  -- The elements that a row in memory is (this product's own).
   pub row_of : {m : _} → Row_of-Tlv m → Elements
   row_of end_of-Tlv = none
   row_of (more_of-Tlv class number body rest) = more (element_of class number body) (row_of rest)

@@ -6,3 +6,4 @@ pub mod Octets
 pub mod Reading
 pub mod Anything
 pub mod Tape
+pub mod Placed

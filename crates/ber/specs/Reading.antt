@@ -9,8 +9,8 @@ use Rattle.ber.specs.Octets.{tag_at, length_at}
 use Rattle.ber.specs.Grammar.{Rules}
 use Rattle.ber.specs.Element.{Element, primitive, constructed, Elements, none, more}
 
--- What is read next, where there was no fault before it (this product's own).
 infixl 10 ◌>>=◌
+-- What is read next, where there was no fault before it (this product's own).
 abbrev pub ◌>>=◌ : {A B : Type 0} → Result A ℕ → (A → Result B ℕ) → Result B ℕ
 (Ok x) >>= f = f x
 (Err e) >>= f = Err e

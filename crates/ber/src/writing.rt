@@ -1,46 +1,69 @@
 //! Elements written with the fewest octets.
-ghost use Rattle.std.specs.Prelude.{◌≡◌, ◌++◌, ◌<◌, ◌≤◌, ◌^◌, length, Ok, OnOk, IfOk, List as Listed, ℕ};
+ghost use Rattle.std.specs.Prelude.{◌≡◌, ◌++◌, ◌+◌, ◌<◌, ◌≤◌, ◌^◌, ◌∷◌, [], length, Ok, IfOk, List as Listed, ℕ};
 ghost use Rattle.ber.specs.Element.{element};
 ghost use Rattle.ber.specs.Spelling.{Spells};
 ghost use Rattle.ber.specs.Anything.{first_element};
 ghost use Rattle.ber.specs.Written.{length_octets, high_octets, identifier, lengths_in, written, IsBounded};
+ghost use Rattle.ber.specs.Placed.{IsPlaced};
 
 use crate::measuring::{measure, octet_count};
 use crate::tag::Tag;
 use crate::tlv::{Body, Tlv};
-use std::alloc::{AllocError, Global};
+use std::alloc::Global;
 use units::{List, OutOfMemory};
 
-// Adds the octets of a definite length of 128 at least.
+// Puts an octet at a place, and answers the place behind it.
+#[inline(always)]
+fn put_octet(out: &mut [u8], at: usize, octet: u8) -> usize
+    requires { at < length out.old }
+    ensures { IsPlaced out.old out.new at (octet ∷ []) result }
+{
+    out[at] = octet;
+    at + 1
+}
+
+// Puts octets at a place, and answers the place behind them.
+#[inline(always)]
+fn put_octets(out: &mut [u8], at: usize, octets: &[u8]) -> usize
+    requires { at + length octets.now ≤ length out.old }
+    ensures { IsPlaced out.old out.new at octets.now result }
+{
+    let end = at + octets.len();
+    out[at..end].copy_from_slice(octets);
+    end
+}
+
+// Puts the octets of a definite length of 128 at least.
 #[inline(never)]
-fn put_long_length(out: &mut Vec<u8>, n: u64) -> Result<(), AllocError>
-    requires { 128 ≤ n }
-    ensures { OnOk result (out.new.items ≡ out.old.items ++ length_octets n) }
+fn put_long_length(out: &mut [u8], at: usize, n: u64) -> usize
+    requires long { 128 ≤ n }
+    requires fits { at + length (length_octets n) ≤ length out.old }
+    ensures { IsPlaced out.old out.new at (length_octets n) result }
 {
     let count = octet_count(n);
-    out.push(128 + count as u8)?;
+    let behind = put_octet(out, at, 128 + count as u8);
     let octets = n.to_be_bytes();
     let (_, last) = octets.split_at(8 - count);
-    out.extend_from_slice(last)?;
-    Ok(())
+    put_octets(out, behind, last)
 }
 
-// Adds the shortest octets of a definite length.
+// Puts the shortest octets of a definite length.
 #[inline(always)]
-fn put_length(out: &mut Vec<u8>, n: u64) -> Result<(), AllocError>
-    ensures { OnOk result (out.new.items ≡ out.old.items ++ length_octets n) }
+fn put_length(out: &mut [u8], at: usize, n: u64) -> usize
+    requires { at + length (length_octets n) ≤ length out.old }
+    ensures { IsPlaced out.old out.new at (length_octets n) result }
 {
     if n < 128 {
-        out.push(n as u8)?;
-        return Ok(());
+        return put_octet(out, at, n as u8);
     }
-    put_long_length(out, n)
+    put_long_length(out, at, n)
 }
 
-// Adds a number from 31 on in base 128.
+// Puts a number from 31 on in base 128.
 #[inline(never)]
-fn put_high(out: &mut Vec<u8>, n: u32) -> Result<(), AllocError>
-    ensures { OnOk result (out.new.items ≡ out.old.items ++ high_octets n) }
+fn put_high(out: &mut [u8], at: usize, n: u32) -> usize
+    requires { at + length (high_octets n) ≤ length out.old }
+    ensures { IsPlaced out.old out.new at (high_octets n) result }
 {
     let last = (n % 128) as u8;
     let second = 128 + (n / 128 % 128) as u8;
@@ -48,59 +71,59 @@ fn put_high(out: &mut Vec<u8>, n: u32) -> Result<(), AllocError>
     let fourth = 128 + (n / 2097152 % 128) as u8;
     let fifth = 128 + (n / 268435456) as u8;
     if n < 1 << 7 {
-        out.extend_from_slice(&[last])?;
+        put_octets(out, at, &[last])
     } else if n < 1 << 14 {
-        out.extend_from_slice(&[second, last])?;
+        put_octets(out, at, &[second, last])
     } else if n < 1 << 21 {
-        out.extend_from_slice(&[third, second, last])?;
+        put_octets(out, at, &[third, second, last])
     } else if n < 1 << 28 {
-        out.extend_from_slice(&[fourth, third, second, last])?;
+        put_octets(out, at, &[fourth, third, second, last])
     } else {
-        out.extend_from_slice(&[fifth, fourth, third, second, last])?;
+        put_octets(out, at, &[fifth, fourth, third, second, last])
     }
-    Ok(())
 }
 
-// Adds the identifier octets.
+// Puts the identifier octets.
 #[inline(always)]
-fn put_tag(out: &mut Vec<u8>, tag: &Tag) -> Result<(), AllocError>
-    ensures { OnOk result (out.new.items ≡ out.old.items ++ identifier tag.now) }
+fn put_tag(out: &mut [u8], at: usize, tag: &Tag) -> usize
+    requires { at + length (identifier tag.now) ≤ length out.old }
+    ensures { IsPlaced out.old out.new at (identifier tag.now) result }
 {
     let form = if tag.constructed { 32 } else { 0 };
     let first = tag.class % 4 * 64 + form;
     if tag.number < 31 {
-        out.push(first + tag.number as u8)?;
-        return Ok(());
+        return put_octet(out, at, first + tag.number as u8);
     }
-    out.push(first + 31)?;
-    put_high(out, tag.number)
+    let behind = put_octet(out, at, first + 31);
+    put_high(out, behind, tag.number)
 }
 
-// Adds the octets of an element, of whose constructed elements `lengths` begins with the lengths; the other lengths.
-fn put<'l>(out: &mut Vec<u8>, lengths: &'l [usize], tlv: &Tlv) -> Result<&'l [usize], AllocError>
-    requires { (rest : Listed ℕ) × (lengths.now ≡ lengths_in (element tlv.now) ++ rest) }
-    ensures others { (rest : Listed ℕ) → lengths.now ≡ lengths_in (element tlv.now) ++ rest → IfOk result (λ left. left.now ≡ rest) }
-    ensures written { OnOk result (out.new.items ≡ out.old.items ++ written (element tlv.now)) }
+// Puts the octets of an element, of whose constructed elements `lengths` begins with the lengths, at a place; answers
+// the place behind them, and the other lengths.
+fn put<'l>(out: &mut [u8], at: usize, lengths: &'l [usize], tlv: &Tlv) -> (usize, &'l [usize])
+    requires known { (rest : Listed ℕ) × (lengths.now ≡ lengths_in (element tlv.now) ++ rest) }
+    requires fits { at + length (written (element tlv.now)) ≤ length out.old }
+    ensures others { (rest : Listed ℕ) → lengths.now ≡ lengths_in (element tlv.now) ++ rest → result.1.now ≡ rest }
+    ensures written { IsPlaced out.old out.new at (written (element tlv.now)) result.0 }
 {
     let tag = tlv.tag();
-    put_tag(out, &tag)?;
+    let place = put_tag(out, at, &tag);
     match &tlv.body {
         Body::Primitive(contents) => {
             let contents = contents.as_slice();
-            put_length(out, contents.len() as u64)?;
-            out.extend_from_slice(contents)?;
-            Ok(lengths)
+            let place = put_length(out, place, contents.len() as u64);
+            (put_octets(out, place, contents), lengths)
         }
         Body::Constructed(inner) => {
             let Some((length, behind)) = lengths.split_first() else {
                 unreachable!();
             };
-            put_length(out, *length as u64)?;
+            let mut place = put_length(out, place, *length as u64);
             let mut left = behind;
             for child in inner.as_slice() {
-                left = put(out, left, child)?;
+                (place, left) = put(out, place, left, child);
             }
-            Ok(left)
+            (place, left)
         }
     }
 }
@@ -113,8 +136,8 @@ fn octets(alloc: Global, tlv: &Tlv) -> Result<List<u8>, OutOfMemory>
     // Most records have at most 16 constructed elements.
     let mut lengths = Vec::with_capacity(alloc, 16)?;
     let count = measure(&mut lengths, tlv)?;
-    let mut out = Vec::with_capacity(alloc, count)?;
-    put(&mut out, &lengths, tlv)?;
+    let mut out = Vec::from_elem(alloc, 0u8, count)?;
+    put(out.as_mut_slice(), 0, &lengths, tlv);
     let _length = out.as_slice().len();
     Ok(List::from_vec(out))
 }

@@ -67,12 +67,13 @@ optional reads (Some value) = option_map Some (reads value)
 abbrev pub needed : {T : Type 0} → (Data → Option T) → Option Data → Option T
 needed reads found = option_and_then reads found
 
--- each item of a list as it reads, or None where one is wrong
+-- an item and the rest, where both are right
 abbrev pub joined : {T : Type 0} → Option T → Option (List T) → Option (List T)
 joined None rest = None
 joined (Some x) None = None
 joined (Some x) (Some xs) = Some (x ∷ xs)
 
+-- the items as they read, or None where one is wrong
 abbrev pub each : {T : Type 0} → (Data → Option T) → Items → Option (List T)
 each reads no_items = Some []
 each reads (item value rest) = joined (reads value) (each reads rest)

@@ -9,6 +9,7 @@ abbrev pub put_if : List ℕ → Option Data → Members → Members
 put_if name None members = members
 put_if name (Some value) members = put name value members
 
+-- members, and those of these fields that have a value
 abbrev pub with_fields : List (List ℕ × Option Data) → Members → Members
 with_fields [] members = members
 with_fields (f ∷ rest) members = with_fields rest (put_if f.0 f.1 members)
@@ -22,6 +23,7 @@ abbrev pub listed : List Data → Option Data
 listed [] = None
 listed (value ∷ rest) = Some (array (items_of (value ∷ rest)))
 
+-- a number that is not negative
 abbrev pub number_data : ℕ → Data
 number_data n = number (unsigned n)
 

@@ -1,3 +1,4 @@
+//! A body that is a JSON object.
 ghost use Rattle.std.specs.Prelude.{◌≡◌, ◌⊎◌, Some, None, IfOk, IfErr, Err};
 ghost use Rattle.serde_json.specs.View.{view};
 ghost use Rattle.units.specs.declared.refusal.JsonRefusal.TheVariants as refusal;

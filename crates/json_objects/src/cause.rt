@@ -1,3 +1,4 @@
+//! The cause of a refusal, by whether its field is required.
 ghost use Rattle.std.specs.Prelude.{◌≡◌};
 ghost use Rattle.json_objects.specs.Cause.{cause_by};
 

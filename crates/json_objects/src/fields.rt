@@ -1,3 +1,4 @@
+//! The fields of an object, read in order.
 ghost use Rattle.std.specs.Prelude.{◌≡◌, ◌⊎◌, IfOk, IsOk, Ok, None, Some, option_map};
 ghost use Rattle.serde_json.specs.View.{view};
 ghost use Rattle.units.specs.Answers.{IsOrNoMemory};

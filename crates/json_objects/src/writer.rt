@@ -1,3 +1,4 @@
+//! Objects, written token after token into a buffer.
 ghost use Rattle.std.specs.Prelude.{◌≡◌, ◌∷◌, ◌++◌, [], ℕ, List, Option, IsTrue, IsUtf8, Some, OnOk, option_map};
 ghost use Rattle.json.specs.Token.{Token, begin_object, end_object, begin_array, end_array, key};
 ghost use Rattle.json.specs.Print.{print};
