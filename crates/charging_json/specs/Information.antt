@@ -33,6 +33,7 @@ amount (Some octets) seconds = Some (Volume octets)
 amount None (Some seconds) = Some (Seconds seconds)
 amount None None = None
 
+-- a granted unit with these members
 abbrev pub with_granted : Option ℕ → Option ℕ → Option ℕ → Granted
 with_granted switch seconds octets = record { grant = amount octets seconds; switch = switch }
 
@@ -47,6 +48,7 @@ granted_of (Some value) =
     (optional time (given (codes "tariffTimeChange") value))
     else None
 
+-- bounds with these members
 abbrev pub with_bounds : Option ℕ → Option ℕ → Option ℕ → Option ℕ → Bounds
 with_bounds validity holding octets seconds = record { validity = validity; holding = holding; volume_threshold = octets; time_threshold = seconds }
 
@@ -59,6 +61,7 @@ bounds_of value =
     (optional number_32 (given (codes "quotaHoldingTime") value)))
     (optional number_32 (given (codes "validityTime") value))
 
+-- an entry with these members
 abbrev pub with_info : ℕ → Code → Granted → Bounds → Option Action → List TriggerRule → UnitInfo
 with_info group code granted bounds last_units triggers = record {
   group = group;

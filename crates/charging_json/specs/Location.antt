@@ -9,6 +9,7 @@ use Rattle.rows.specs.Number.{number_of}
 abbrev pub base : Parts
 base = record { scheme = codes "http"; username = []; password = []; host = Some (Domain (codes "peer")); port = None; path = codes "/"; query = None; fragment = None }
 
+-- what a parse gives, where it does
 abbrev pub parsed : Parsed Parts → Option Parts
 parsed (Ok url) = Some url
 parsed (Err e) = None

@@ -35,6 +35,7 @@ abbrev pub flat : {T : Type 0} → Option (Option T) → Option T
 flat None = None
 flat (Some o) = o
 
+-- an answer with these fields; what is absent is empty
 abbrev pub with_answer : ℕ → ℕ → Option (Option Handling) → Option Bool → Option (List TriggerRule) → Option (List UnitInfo) → Answer
 with_answer stamp number handling failover triggers units = record { number = number; stamp = stamp; failover = failover; handling = flat handling; triggers = or_empty triggers; units = or_empty units }
 
@@ -49,6 +50,7 @@ answer_of value =
     after (allowed (codes "multipleUnitInformation") (option_map (list_of info_of) (given (codes "multipleUnitInformation") value))) (λ units.
     Ok (with_answer stamp number handling failover triggers units)))))))
 
+-- problem details with these members
 abbrev pub with_problem : ℕ → List ℕ → Option (List ℕ) → Problem
 with_problem status cause detail = record { status = status; cause = cause; detail = detail }
 
@@ -67,9 +69,11 @@ reference_given location = required (codes "Location") (option_map reference_of 
 abbrev pub created_of : Option (List ℕ) → Data → Result Reply JsonRefusal
 created_of location value = after (answer_of value) (λ answer. after (reference_given location) (λ reference. Ok (Created reference answer)))
 
+-- a session that was updated: its answer
 abbrev pub updated_of : Data → Result Reply JsonRefusal
 updated_of value = after (answer_of value) (λ answer. Ok (Updated answer))
 
+-- a request that was refused with this status: its problem
 abbrev pub refused_of : ℕ → Data → Result Reply JsonRefusal
 refused_of status value = after (problem_of status value) (λ problem. Ok (Refused problem))
 
@@ -80,6 +84,7 @@ reply_of status location value =
     else if status == 200 then updated_of value
     else refused_of status value
 
+-- what the object of a body is, where the body is one
 abbrev pub reply_by : ℕ → Option (List ℕ) → Option Data → Result Reply JsonRefusal
 reply_by status location None = Err NotJson
 reply_by status location (Some value) = reply_of status location value

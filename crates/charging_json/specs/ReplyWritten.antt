@@ -27,6 +27,7 @@ rule_fields rule =
     (codes "triggerType", Some (string (name_of_type rule.trigger))) ∷
     (codes "volumeLimit64", option_map number_data rule.volume) ∷ []
 
+-- as an object
 abbrev pub rule_data : TriggerRule → Data
 rule_data rule = object_of (rule_fields rule)
 
@@ -42,6 +43,7 @@ seconds_of None = None
 seconds_of (Some (Volume octets)) = None
 seconds_of (Some (Seconds seconds)) = Some seconds
 
+-- the members of a granted unit
 abbrev pub granted_fields : Option Amount → Option ℕ → List (List ℕ × Option Data)
 granted_fields grant switch =
     (codes "tariffTimeChange", option_map time_data switch) ∷
@@ -58,6 +60,7 @@ granted_data (Some grant) switch = Some (object_of (granted_fields (Some grant) 
 abbrev pub last_units_fields : Action → List (List ℕ × Option Data)
 last_units_fields action = (codes "finalUnitAction", Some (string (name_of_action action))) ∷ []
 
+-- as an object
 abbrev pub last_units_data : Action → Data
 last_units_data action = object_of (last_units_fields action)
 
@@ -78,6 +81,7 @@ info_fields info =
     (codes "ratingGroup", Some (number_data info.group)) ∷
     (codes "resultCode", Some (string (name_of_code info.code))) ∷ bound_fields (listed (map rule_data info.triggers)) info
 
+-- as an object
 abbrev pub info_data : UnitInfo → Data
 info_data info = object_of (info_fields info)
 
@@ -85,9 +89,11 @@ info_data info = object_of (info_fields info)
 abbrev pub result_fields : Handling → List (List ℕ × Option Data)
 result_fields handling = (codes "failureHandling", Some (string (name_of_handling handling))) ∷ []
 
+-- as an object
 abbrev pub result_data : Handling → Data
 result_data handling = object_of (result_fields handling)
 
+-- whether session failover is supported
 abbrev pub failover_data : Bool → Data
 failover_data supported = string (name_of_failover supported)
 
@@ -101,6 +107,7 @@ answer_fields answer =
     (codes "sessionFailover", option_map failover_data answer.failover) ∷
     (codes "triggers", listed (map rule_data answer.triggers)) ∷ []
 
+-- as an object
 abbrev pub answer_data : Answer → Data
 answer_data answer = object_of (answer_fields answer)
 
@@ -111,6 +118,7 @@ problem_fields problem =
     (codes "detail", option_map string problem.detail) ∷
     (codes "status", Some (number_data problem.status)) ∷ []
 
+-- as an object
 abbrev pub problem_data : Problem → Data
 problem_data problem = object_of (problem_fields problem)
 

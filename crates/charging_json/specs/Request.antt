@@ -30,6 +30,7 @@ abbrev pub named : Option Data → Option (List ℕ)
 named None = None
 named (Some value) = name value
 
+-- the name of the consumer that an identification gives
 abbrev pub consumer_of : Data → Option (List ℕ)
 consumer_of value = named (consumer_place value)
 
@@ -42,10 +43,12 @@ given_within name (Some value) = given name value
 abbrev pub charging_id_place : Data → Option Data
 charging_id_place value = either_place (given (codes "chargingId") value) (given_within (codes "chargingId") (given (codes "pDUSessionChargingInformation") value))
 
+-- an indicator that is absent is false
 abbrev pub is_again : Option Bool → Bool
 is_again None = false
 is_again (Some again) = again
 
+-- a request with these fields; what is absent is empty
 abbrev pub with_request : Operation → List ℕ → ℕ → ℕ → Option (List ℕ) → Option ℕ → Option Bool → Option (List ℕ) → Option (List UnitUsage) → Option (List (List ℕ)) → Request
 with_request operation consumer stamp number subscriber charging_id again notify usage triggers = record {
   operation = operation;
@@ -74,6 +77,7 @@ request_of operation value =
     after (allowed (codes "triggers") (option_map (list_of sound_kind) (given (codes "triggers") value))) (λ triggers.
     Ok (with_request operation consumer stamp number subscriber charging_id again notify usage triggers))))))))))
 
+-- what the object of a body is, where the body is one
 abbrev pub request_by : Operation → Option Data → Result Request JsonRefusal
 request_by operation None = Err NotJson
 request_by operation (Some value) = request_of operation value

@@ -12,6 +12,7 @@ use Rattle.json_objects.specs.Objects.{object_of, listed, number_data, time_data
 abbrev pub trigger_fields : List ℕ → List (List ℕ × Option Data)
 trigger_fields kind = (codes "triggerCategory", Some (string (name_of_category true))) ∷ (codes "triggerType", Some (string kind)) ∷ []
 
+-- as an object
 abbrev pub trigger_data : List ℕ → Data
 trigger_data kind = object_of (trigger_fields kind)
 
@@ -23,6 +24,7 @@ total_of up down = min (up + down) (2 ^ 64 - 1)
 abbrev pub span_fields : Used → List (List ℕ × Option Data)
 span_fields used = (codes "timeofFirstUsage", Some (time_data used.first)) ∷ (codes "timeofLastUsage", Some (time_data used.last)) ∷ []
 
+-- as an object
 abbrev pub span_data : Used → Data
 span_data used = object_of (span_fields used)
 
@@ -38,6 +40,7 @@ used_fields used =
     (codes "triggers", listed (map trigger_data used.triggers)) ∷
     (codes "uplinkVolume", Some (number_data used.up)) ∷ []
 
+-- as an object
 abbrev pub used_data : Used → Data
 used_data used = object_of (used_fields used)
 
@@ -45,6 +48,7 @@ used_data used = object_of (used_fields used)
 abbrev pub ask_fields : Ask → List (List ℕ × Option Data)
 ask_fields ask = (codes "time", option_map number_data ask.seconds) ∷ (codes "totalVolume", option_map number_data ask.volume) ∷ []
 
+-- as an object
 abbrev pub ask_data : Ask → Data
 ask_data ask = object_of (ask_fields ask)
 
@@ -55,6 +59,7 @@ usage_fields usage =
     (codes "requestedUnit", option_map ask_data usage.ask) ∷
     (codes "usedUnitContainer", listed (map used_data usage.used)) ∷ []
 
+-- as an object
 abbrev pub usage_data : UnitUsage → Data
 usage_data usage = object_of (usage_fields usage)
 
@@ -62,6 +67,7 @@ usage_data usage = object_of (usage_fields usage)
 abbrev pub consumer_fields : List ℕ → List (List ℕ × Option Data)
 consumer_fields name = (codes "nFName", Some (string name)) ∷ (codes "nodeFunctionality", Some (string (codes "SMF"))) ∷ []
 
+-- as an object
 abbrev pub consumer_data : List ℕ → Data
 consumer_data name = object_of (consumer_fields name)
 
@@ -87,6 +93,7 @@ request_fields request = invocation_fields request ++ (
     (codes "subscriberIdentifier", option_map string request.subscriber) ∷
     (codes "triggers", listed (map trigger_data request.triggers)) ∷ [])
 
+-- as an object
 abbrev pub request_data : Request → Data
 request_data request = object_of (request_fields request)
 

@@ -9,6 +9,7 @@ use Rattle.charging_json.specs.declared.triggers.Limits.{Limits}
 use Rattle.json_objects.specs.Fields.{joined}
 use Rattle.charging_json.specs.Triggers.{limits_of, kind_of}
 
+-- a rule of this type with these limits
 abbrev pub with_rule : Limits → TriggerType → TriggerRule
 with_rule limits kind = record { trigger = kind; immediate = limits.immediate; volume = limits.volume; seconds = limits.seconds; changes = limits.changes }
 
@@ -22,6 +23,7 @@ kept None rest = None
 kept (Some None) rest = rest
 kept (Some (Some rule)) rest = joined (Some rule) rest
 
+-- the rules of some items
 abbrev pub rules_in : Items → Option (List TriggerRule)
 rules_in no_items = Some []
 rules_in (item value rest) = kept (rule_of value) (rules_in rest)

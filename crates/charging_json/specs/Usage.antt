@@ -61,6 +61,7 @@ times_of stamp value =
 
 -- ---- containers
 
+-- counts with these members; seconds that are absent are 0
 abbrev pub with_counts : ℕ → Option ℕ → (ℕ × ℕ) → Counts
 with_counts lsn seconds volumes = record { lsn = lsn; seconds = unwrap_or seconds 0; up = volumes.0; down = volumes.1 }
 
@@ -70,6 +71,7 @@ counts_of value =
     option_and_then (λ lsn. option_and_then (λ seconds. option_map (λ volumes. with_counts lsn seconds volumes) (volumes_of value))
     (optional number_32 (given (codes "time") value))) (needed number_32 (given (codes "localSequenceNumber") value))
 
+-- a container with these members
 abbrev pub with_used : ℕ → Counts → Times → List (List ℕ) → Used
 with_used group counts times triggers = record { lsn = counts.lsn; group = group; up = counts.up; down = counts.down; seconds = counts.seconds; first = times.first; last = times.last; triggers = triggers; moment = times.moment }
 
@@ -81,6 +83,7 @@ used_of group stamp value =
 
 -- ---- entries
 
+-- a requested unit with these members
 abbrev pub with_ask : Option ℕ → Option ℕ → Ask
 with_ask volume seconds = record { volume = volume; seconds = seconds }
 
@@ -104,6 +107,7 @@ short items = if nat_le (count items) most_entries then Some items else None
 abbrev pub short_list_of : {T : Type 0} → (Data → Option T) → Data → Option (List T)
 short_list_of reads value = option_and_then (each reads) (option_and_then short (as_array value))
 
+-- an entry with these members; containers that are absent are none
 abbrev pub with_usage : ℕ → Option Ask → Option (List Used) → UnitUsage
 with_usage group ask used = record { group = group; ask = ask; used = or_empty used }
 

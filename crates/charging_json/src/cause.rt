@@ -1,3 +1,4 @@
+//! The cause that a refusal of a body has.
 ghost use Rattle.std.specs.Prelude.{◌≡◌};
 ghost use Rattle.charging_json.specs.Cause.{is_always_required, is_required_in_create, is_required, cause_of};
 

@@ -1,3 +1,4 @@
+//! Used unit containers, read.
 ghost use Rattle.std.specs.Prelude.{◌≡◌, ◌≤◌, ◌^◌, ℕ, codes, IfOk, Some, option_map, option_and_then, vec_len};
 ghost use Rattle.serde_json.specs.View.{view, items_view};
 ghost use Rattle.serde_json.specs.Find.{as_array};

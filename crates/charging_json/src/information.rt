@@ -1,3 +1,4 @@
+//! Multiple unit information, read.
 ghost use Rattle.std.specs.Prelude.{◌≡◌, codes, IfOk, Some, option_map};
 ghost use Rattle.serde_json.specs.View.{view};
 ghost use Rattle.json_objects.specs.Fields.{given, optional, needed, list_of, or_empty};

@@ -1,3 +1,4 @@
+//! Time stamp and number of an invocation, read.
 ghost use Rattle.std.specs.Prelude.{codes, option_map};
 ghost use Rattle.serde_json.specs.View.{view};
 ghost use Rattle.units.specs.Answers.{IsOrNoMemory};

@@ -1,3 +1,4 @@
+//! The Location of a charging session, read and written.
 ghost use Rattle.std.specs.Prelude.{◌≡◌, IfOk, Ok, Some, option_map, option_and_then, string_bytes};
 ghost use Rattle.charging_json.specs.Location.{base, path_of, below_collection, reference_in, reference_of, location_text};
 

@@ -1,3 +1,4 @@
+//! Replies, read.
 ghost use Rattle.std.specs.Prelude.{◌≡◌, ◌==◌, codes, false, IfOk, Ok, Err, option_map, option_and_then};
 ghost use Rattle.serde_json.specs.View.{view};
 ghost use Rattle.serde_json.specs.Find.{as_str};

@@ -1,3 +1,4 @@
+//! Replies, written, with their status and their Location.
 ghost use Rattle.std.specs.Prelude.{◌≡◌, ◌++◌, codes, IfOk, OnOk, OnErr, Ok, None, Some, [], option_map, map};
 ghost use Rattle.serde_json.specs.Written.{compact_text};
 ghost use Rattle.json_objects.specs.Body.{object_in};

@@ -1,3 +1,4 @@
+//! Charging data requests, read.
 ghost use Rattle.std.specs.Prelude.{◌≡◌, codes, IfOk, Ok, Err, option_map};
 ghost use Rattle.std.specs.List.{list_all};
 ghost use Rattle.serde_json.specs.View.{view};

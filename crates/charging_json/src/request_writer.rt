@@ -1,3 +1,4 @@
+//! Charging data requests, written.
 ghost use Rattle.std.specs.Prelude.{◌≡◌, ◌≤◌, ◌+◌, ◌^◌, ◌++◌, codes, min, length, IfOk, OnOk, OnErr, Ok, Some, option_map, map};
 ghost use Rattle.serde_json.specs.Written.{compact_text};
 ghost use Rattle.json_objects.specs.Objects.{listed};

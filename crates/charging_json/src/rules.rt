@@ -1,3 +1,4 @@
+//! The trigger rules of a reply, read.
 ghost use Rattle.std.specs.Prelude.{◌≡◌, IfOk, Some, option_map, vec_len};
 ghost use Rattle.serde_json.specs.View.{view};
 ghost use Rattle.charging_json.specs.Rules.{rule_of, rules_of};

@@ -1,3 +1,4 @@
+//! Multiple unit usage, read.
 ghost use Rattle.std.specs.Prelude.{◌≡◌, codes, IfOk, Some, option_map, option_and_then};
 ghost use Rattle.serde_json.specs.View.{view};
 ghost use Rattle.json_objects.specs.Fields.{given, optional, or_empty};

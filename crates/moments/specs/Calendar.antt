@@ -3,6 +3,7 @@ use Rattle.std.specs.Prelude.{◌≡◌, ◌<◌, ◌≤◌, ℕ, zero, suc, ◌
 use Rattle.jiff_core.specs.Calendar.{days_in_month, days_from_civil, day_count}
 use Rattle.jiff_core.specs.declared.civil.datetime.DateTime.{DateTime}
 use Rattle.moments.specs.declared.calendar.LocalTime.{LocalTime}
+use Rattle.units.specs.Limits.{greatest_moment}
 
 -- the calendar has this date (RFC 3339, 5.7)
 abbrev pub is_date : ℕ → ℕ → ℕ → Bool
@@ -18,7 +19,7 @@ clock_seconds time = time.hour * 3600 + time.minute * 60 + min time.second 59
 
 -- a count of seconds from 1970-01-01T00:00:00Z, where it is a moment: until 2069-12-31T23:59:59Z (this product's own)
 abbrev pub in_range : ℤ → Option ℕ
-in_range (pos seconds) = if nat_le seconds 3_155_759_999 then Some seconds else None
+in_range (pos seconds) = if nat_le seconds greatest_moment then Some seconds else None
 in_range (negsuc below) = None
 
 -- the moment of a local time: the local seconds less the offset, where date and clock are sound and the moment is in range (RFC 3339, 4.1)

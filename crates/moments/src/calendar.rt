@@ -3,6 +3,7 @@ ghost use Rattle.std.specs.Prelude.{◌≡◌, ◌≤◌, ◌<◌, ◌+◌, ◌�
 ghost use Rattle.jiff.specs.Words.{IsDate, IsWithin, epoch_day};
 ghost use Rattle.jiff_core.specs.Calendar.{days_from_civil};
 ghost use Rattle.jiff_core.specs.Time.{time_seconds};
+ghost use Rattle.units.specs.Limits.{greatest_moment};
 ghost use Rattle.moments.specs.Calendar.{day_of, in_range, moment_of, shown_at, IsWritten, IsShown};
 
 use jiff::Timestamp;
@@ -54,13 +55,13 @@ fn seconds_from(day: i32, clock: u32, ahead: u32) -> Option<u64>
     requires day { IsWithin 5_000_000 day }
     requires clock { clock < 200_000 }
     requires ahead { ahead < 86_400 }
-    ensures none { IfNone result ((m : ℕ) → m ≤ 3_155_759_999
+    ensures none { IfNone result ((m : ℕ) → m ≤ greatest_moment
         → day *ℤ pos 86_400 +ℤ pos clock ≢ pos (m + ahead)) }
-    ensures value { IfSome result (λ m. (m ≤ 3_155_759_999)
+    ensures value { IfSome result (λ m. (m ≤ greatest_moment)
         × (day *ℤ pos 86_400 +ℤ pos clock ≡ pos (m + ahead))) }
 {
     let seconds = day as i64 * 86_400 + clock as i64 - ahead as i64;
-    if seconds < 0 || seconds > 3_155_759_999 {
+    if seconds < 0 || seconds > Moment::LAST as i64 {
         return None;
     }
     Some(seconds as u64)
@@ -96,7 +97,7 @@ impl LocalTime {
     /// What a clock of UTC shows at a moment.
     pub fn at(moment: Moment) -> LocalTime
         ensures shown { result ≡ shown_at moment }
-        ensures range { moment ≤ 3_155_759_999 }
+        ensures range { moment ≤ greatest_moment }
     {
         let seconds = moment.seconds();
         let clock = clock_at(seconds);
@@ -123,7 +124,7 @@ fn shown(clock: &DateTime) -> LocalTime
 
 // What a clock of UTC shows so many seconds from 1970-01-01T00:00:00Z.
 fn clock_at(seconds: u64) -> DateTime
-    requires { seconds ≤ 3_155_759_999 }
+    requires { seconds ≤ greatest_moment }
     ensures local { epoch_day result.date *ℤ pos 86_400 +ℤ pos (time_seconds result.time)
         ≡ pos seconds }
     ensures year { pos 1970 ≤ℤ result.date.year }
@@ -132,7 +133,7 @@ fn clock_at(seconds: u64) -> DateTime
 }
 
 fn instant_of(seconds: u64) -> Timestamp
-    requires { seconds ≤ 3_155_759_999 }
+    requires { seconds ≤ greatest_moment }
     ensures { result.nanosecond ≡ pos seconds *ℤ pos 1_000_000_000 }
 {
     Timestamp::from_second(seconds as i64).unwrap()

@@ -1,5 +1,6 @@
 //! Time stamps of charging records: nine octets of decimal digits and an offset.
 ghost use Rattle.std.specs.Prelude.{ℕ, ◌≡◌, ◌≤◌, ◌<◌, IfSome, Some, slice_index};
+ghost use Rattle.units.specs.Limits.{greatest_moment};
 ghost use Rattle.moments.specs.Calendar.{IsWritten, IsZulu};
 ghost use Rattle.moments.specs.Stamp.{bcd_of, octet_of, full_year, shift_of, date_and_clock, stamp_time, zulu_octets, stamp_octets};
 
@@ -130,5 +131,5 @@ pub fn from_bcd(octets: &[u8; 9]) -> Option<Moment>
 
 /// The time stamp of each moment reads as that moment: a law for proofs, which does nothing.
 pub fn stamps_read_back()
-    ensures { (moment : ℕ) → moment ≤ 3_155_759_999 → stamp_time (stamp_octets moment) ≡ Some moment }
+    ensures { (moment : ℕ) → moment ≤ greatest_moment → stamp_time (stamp_octets moment) ≡ Some moment }
 {}

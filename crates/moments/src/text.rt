@@ -1,5 +1,6 @@
 //! Date times as text.
 ghost use Rattle.std.specs.Prelude.{ℕ, ◌≡◌, ◌≤◌, ◌<◌, IfSome, Some, option_map, option_and_then};
+ghost use Rattle.units.specs.Limits.{greatest_moment};
 ghost use Rattle.moments.specs.Calendar.{IsWritten, IsZulu};
 ghost use Rattle.moments.specs.Digits.{two_at};
 ghost use Rattle.moments.specs.Text.{after_fraction, zone_of, year_of, clock_of, has_marks, written_in, time_of, zulu_text, time_text};
@@ -175,5 +176,5 @@ pub fn write_time(moment: Moment) -> [u8; 20]
 
 /// The text of each moment reads as that moment: a law for proofs, which does nothing.
 pub fn times_read_back()
-    ensures { (moment : ℕ) → moment ≤ 3_155_759_999 → time_of (time_text moment) ≡ Some moment }
+    ensures { (moment : ℕ) → moment ≤ greatest_moment → time_of (time_text moment) ≡ Some moment }
 {}
