@@ -8,18 +8,20 @@ use Rattle.smf_model.specs.declared.setup.SmfSetup.{SmfSetup}
 use Rattle.smf_model.specs.declared.session.Session.{Session}
 use Rattle.smf_model.specs.declared.session.Machine.{Machine}
 use Rattle.smf_model.specs.declared.event.SmfEvent.{SmfEvent}
-use Rattle.smf_model.specs.declared.event.SmfEvent.TheVariants.{Attach, Start, Count, Change as Changes, Tick, Detach, Answered}
+use Rattle.smf_model.specs.declared.event.SmfEvent.TheVariants.{Attach, Start, Count, Change as Changes, Tick, Detach, Answered, Attempt, NotSent, NoReply, Restart}
 use Rattle.smf_model.specs.declared.refusal.Seen.TheVariants.{New}
 use Rattle.smf_core.specs.declared.plan.Change.{Change}
+use Rattle.smf_core.specs.declared.plan.Turn.{Turn}
 use Rattle.smf_core.specs.declared.plan.Next.{Next}
-use Rattle.smf_core.specs.declared.plan.Next.TheVariants.{Nothing, One, All}
+use Rattle.smf_core.specs.declared.plan.Next.TheVariants.{Nothing, One, Several}
 use Rattle.smf_model.specs.Settle.{settled}
 use Rattle.smf_model.specs.Freeze.{with_request, freeze_by, next_operation}
-use Rattle.smf_model.specs.Machine.{session_of, on_session, start_answer, count_answer, change_answer, detach_answer, reply_answer, attach_answer, answer_of, now_after, fresh, finished, added_by}
-use Rattle.smf_core.specs.Lookup.{subject, session_for, answer_for}
+use Rattle.smf_model.specs.Sending.{send_of}
+use Rattle.smf_model.specs.Machine.{session_of, on_session, start_answer, count_answer, change_answer, detach_answer, reply_answer, attempt_answer, loss_answer, attach_answer, answer_of, now_after, fresh, finished, added_by}
+use Rattle.smf_core.specs.Lookup.{subject, session_for, answer_for, next_for, flies_for}
 use Rattle.smf_core.specs.Index.{place_in, place_for}
 use Rattle.smf_core.specs.Caches.{KeptAs, numbers_of, sessions_of}
-use Rattle.smf_core.specs.Plan.{changed, changed_all, map_at, sessions_next, added_in, AddedIsReady}
+use Rattle.smf_core.specs.Plan.{changed, turned, map_at, sessions_next, added_in, AddedIsReady}
 
 -- by its place
 
@@ -65,38 +67,54 @@ no_place_from n j (s ∷ ss) h = at (s.number == n) h (λ g. no_place_from n (j 
     at false e ih = ih e
 
 -- the answer to an event is that of its own session
-pub answer_by : (event : SmfEvent) (m : Machine) → answer_for m.moment (session_for (subject event) m.sessions) event ≡ answer_of m event
+pub answer_by : (event : SmfEvent) (m : Machine) → answer_for m.moment (next_for m.moment m.sessions event) (flies_for m.sessions event) (session_for (subject event) m.sessions) event ≡ answer_of m event
 answer_by (Attach session subscriber groups moment) m = at (session_of session m.sessions)
   where
-    at : (o : Option Session) → answer_for m.moment o (Attach session subscriber groups moment) ≡ attach_answer o (length groups)
+    at : (o : Option Session) → answer_for m.moment None false o (Attach session subscriber groups moment) ≡ attach_answer o (length groups)
     at None = refl
     at (Some s) = refl
 answer_by (Start session group moment) m = at (session_of session m.sessions)
   where
-    at : (o : Option Session) → answer_for m.moment o (Start session group moment) ≡ on_session o (start_answer group moment)
+    at : (o : Option Session) → answer_for m.moment (None) false o (Start session group moment) ≡ on_session o (start_answer group moment)
     at None = refl
     at (Some s) = refl
 answer_by (Count session r) m = at (session_of session m.sessions)
   where
-    at : (o : Option Session) → answer_for m.moment o (Count session r) ≡ on_session o (count_answer r)
+    at : (o : Option Session) → answer_for m.moment (None) false o (Count session r) ≡ on_session o (count_answer r)
     at None = refl
     at (Some s) = refl
 answer_by (Changes session trigger moment) m = at (session_of session m.sessions)
   where
-    at : (o : Option Session) → answer_for m.moment o (Changes session trigger moment) ≡ on_session o (change_answer moment)
+    at : (o : Option Session) → answer_for m.moment (None) false o (Changes session trigger moment) ≡ on_session o (change_answer moment)
     at None = refl
     at (Some s) = refl
 answer_by (Tick moment) m = refl
 answer_by (Detach session abnormal moment) m = at (session_of session m.sessions)
   where
-    at : (o : Option Session) → answer_for m.moment o (Detach session abnormal moment) ≡ on_session o (detach_answer moment)
+    at : (o : Option Session) → answer_for m.moment (None) false o (Detach session abnormal moment) ≡ on_session o (detach_answer moment)
     at None = refl
     at (Some s) = refl
 answer_by (Answered session number reply) m = at (session_of session m.sessions)
   where
-    at : (o : Option Session) → answer_for m.moment o (Answered session number reply) ≡ on_session o (reply_answer number reply)
+    at : (o : Option Session) → answer_for m.moment (None) false o (Answered session number reply) ≡ on_session o (reply_answer number reply)
     at None = refl
     at (Some s) = refl
+answer_by (Attempt session peer) m = at (session_of session m.sessions)
+  where
+    at : (o : Option Session) → answer_for m.moment (send_of m.moment m.sessions) false o (Attempt session peer) ≡ on_session o (attempt_answer m.moment m.sessions peer)
+    at None = refl
+    at (Some s) = refl
+answer_by (NotSent session) m = at (session_of session m.sessions)
+  where
+    at : (o : Option Session) → answer_for m.moment (None) false o (NotSent session) ≡ on_session o (loss_answer)
+    at None = refl
+    at (Some s) = refl
+answer_by (NoReply session) m = at (session_of session m.sessions)
+  where
+    at : (o : Option Session) → answer_for m.moment (None) false o (NoReply session) ≡ on_session o (loss_answer)
+    at None = refl
+    at (Some s) = refl
+answer_by Restart m = refl
 
 -- the session that an event adds
 
@@ -125,6 +143,10 @@ added_ready (Changes session trigger moment) (Some k) m room h new r = cc
 added_ready (Tick moment) (Some k) m room h new r = cc
 added_ready (Detach session abnormal moment) (Some k) m room h new r = cc
 added_ready (Answered session number reply) (Some k) m room h new r = cc
+added_ready (Attempt session peer) (Some k) m room h new r = cc
+added_ready (NotSent session) (Some k) m room h new r = cc
+added_ready (NoReply session) (Some k) m room h new r = cc
+added_ready Restart (Some k) m room h new r = cc
 
 -- changes keep the numbers
 
@@ -133,15 +155,14 @@ numbers_at at c [] = refl
 numbers_at zero c (s ∷ ss) = refl
 numbers_at (suc at) c (s ∷ ss) = ap (λ ns. s.number ∷ ns) (numbers_at at c ss)
 
-numbers_all : (cs : List Change) (ss : List Session) → numbers_of (changed_all cs ss) ≡ numbers_of ss
+numbers_all : (ts : List Turn) (ss : List Session) → numbers_of (turned ts ss) ≡ numbers_of ss
 numbers_all [] ss = refl
-numbers_all (c ∷ cs) [] = refl
-numbers_all (c ∷ cs) (s ∷ ss) = ap (λ ns. s.number ∷ ns) (numbers_all cs ss)
+numbers_all (t ∷ ts) ss = numbers_at t.at t.change (turned ts ss) ∙ numbers_all ts ss
 
 pub numbers_next : (next : Next) (ss : List Session) → numbers_of (sessions_next next ss) ≡ numbers_of ss
 numbers_next Nothing ss = refl
-numbers_next (One at c) ss = numbers_at at c ss
-numbers_next (All cs) ss = numbers_all cs ss
+numbers_next (One t) ss = numbers_at t.at t.change ss
+numbers_next (Several ts) ss = numbers_all ts ss
 
 pub ready_next : (next : Next) (added : Option KeptAs) (ss : List Session) (room : ℕ) → AddedIsReady added ss room → AddedIsReady added (sessions_next next ss) room
 ready_next next None ss room h = tt

@@ -27,28 +27,28 @@ pub wide-full : (b : Session) (all : List Holding) → b.holdings ≡ filter is_
 wide-full b all live = ap (full b) (ap (merged all) live ∙ merged-same all)
 
 made_now : (c : Change) (setup : SmfSetup) (now : ℕ) (event : SmfEvent) (b : Session) (all : List Holding) (at : List ℕ) (every some : List Container)
-    → IsKept b all at every some → IsMade c b at (length all) (finished setup now (effect_past (length all - length at) now event b))
-    → IsMade c b at (length all) (finished setup now (effect_past (past_count all) now event b))
+    → IsKept b all at every some → IsMade c b at (length all) (finished setup now (effect_past setup (length all - length at) now event b))
+    → IsMade c b at (length all) (finished setup now (effect_past setup (past_count all) now event b))
 made_now c setup now event b all at every some k m =
-    subst (λ n. IsMade c b at (length all) (finished setup now (effect_past n now event b))) (left_out all at k.places) m
+    subst (λ n. IsMade c b at (length all) (finished setup now (effect_past setup n now event b))) (left_out all at k.places) m
 
 pub made : (c : Change) (setup : SmfSetup) (now : ℕ) (event : SmfEvent) (b : Session) (all : List Holding) (at : List ℕ) (every some : List Container)
-    → IsKept b all at every some → IsMade c b at (length all) (finished setup now (effect_past (length all - length at) now event b))
-    → changed c (full b all) ≡ finished setup now (effect now event (full b all))
+    → IsKept b all at every some → IsMade c b at (length all) (finished setup now (effect_past setup (length all - length at) now event b))
+    → changed c (full b all) ≡ finished setup now (effect setup now event (full b all))
 made c setup now event b all at every some k before =
-    let m : IsMade c b at (length all) (finished setup now (effect_past (past_count all) now event b)) = made_now c setup now event b all at every some k before in
+    let m : IsMade c b at (length all) (finished setup now (effect_past setup (past_count all) now event b)) = made_now c setup now event b all at every some k before in
     let enough : length (filter is_held all) ≤ length b.holdings = omega (arith, ap length k.live) in
     ap (wide all) m.session
     ∙ sym (next_wide_all event setup all now b enough)
-    ∙ ap (λ s. finished setup now (effect now event s)) (wide-full b all k.live)
+    ∙ ap (λ s. finished setup now (effect setup now event s)) (wide-full b all k.live)
 
 pub fits : (c : Change) (setup : SmfSetup) (now : ℕ) (event : SmfEvent) (b : Session) (all : List Holding) (at : List ℕ) (every some : List Container)
-    → IsKept b all at every some → IsMade c b at (length all) (finished setup now (effect_past (length all - length at) now event b))
+    → IsKept b all at every some → IsMade c b at (length all) (finished setup now (effect_past setup (length all - length at) now event b))
     → Fits c (full b all)
 fits c setup now event b all at every some k before =
-    let m : IsMade c b at (length all) (finished setup now (effect_past (past_count all) now event b)) = made_now c setup now event b all at every some k before in
-    let g : GrowsByOne b.holdings (finished setup now (effect_past (past_count all) now event b)).holdings = grows event setup (past_count all) now b in
-    let long : length c.moved ≡ length (finished setup now (effect_past (past_count all) now event b)).holdings = ap (λ (s : Session). length s.holdings) m.session in
+    let m : IsMade c b at (length all) (finished setup now (effect_past setup (past_count all) now event b)) = made_now c setup now event b all at every some k before in
+    let g : GrowsByOne b.holdings (finished setup now (effect_past setup (past_count all) now event b)).holdings = grows event setup (past_count all) now b in
+    let long : length c.moved ≡ length (finished setup now (effect_past setup (past_count all) now event b)).holdings = ap (λ (s : Session). length s.holdings) m.session in
     let enough : length (filter is_held all) ≤ length c.moved = omega (arith, ap length k.live, g.0, long) in
     record {
       enough = enough;
@@ -88,10 +88,10 @@ if_ok (Ok x) P Q f h = f x h
 if_ok (Err e) P Q f h = tt
 
 pub with_places : (c : Change) (setup : SmfSetup) (now : ℕ) (event : SmfEvent) (b : Session) (at places : List ℕ) (n count : ℕ) → at ≡ places → n ≡ count
-    → IsMade c b at n (finished setup now (effect_past (n - length at) now event b)) → IsMade c b places count (finished setup now (effect_past (count - length places) now event b))
+    → IsMade c b at n (finished setup now (effect_past setup (n - length at) now event b)) → IsMade c b places count (finished setup now (effect_past setup (count - length places) now event b))
 with_places c setup now event b at places n count e f m =
-    subst (λ k. IsMade c b places k (finished setup now (effect_past (k - length places) now event b))) f
-    (subst (λ ps. IsMade c b ps n (finished setup now (effect_past (n - length ps) now event b))) e m)
+    subst (λ k. IsMade c b places k (finished setup now (effect_past setup (k - length places) now event b))) f
+    (subst (λ ps. IsMade c b ps n (finished setup now (effect_past setup (n - length ps) now event b))) e m)
 
 pub room_for : (c : Change) (b : Session) (all : List Holding) (at : List ℕ) → at ≡ places_from 0 all → Fits c (full b all) → length c.moved ≤ length at + 1
 room_for c b all at h f = omega (arith, f.one, ap length h, length-places 0 all)

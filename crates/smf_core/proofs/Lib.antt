@@ -4,5 +4,6 @@ pub mod Indexed
 pub mod Places
 pub mod Lengths
 pub mod KeptRight
+pub mod Turns
 pub mod Nexts
 pub mod Found

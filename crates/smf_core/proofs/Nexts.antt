@@ -8,14 +8,14 @@ use Rattle.std.proofs.lemmas.Bool.{eqb-true}
 use Rattle.smf_model.specs.declared.setup.SmfSetup.{SmfSetup}
 use Rattle.smf_model.specs.declared.session.Session.{Session}
 use Rattle.smf_model.specs.declared.event.SmfEvent.{SmfEvent}
-use Rattle.smf_model.specs.declared.event.SmfEvent.TheVariants.{Attach, Start, Count, Change as Changes, Tick, Detach, Answered}
+use Rattle.smf_model.specs.declared.event.SmfEvent.TheVariants.{Attach, Start, Count, Change as Changes, Tick, Detach, Answered, Attempt, NotSent, NoReply, Restart}
 use Rattle.smf_core.specs.declared.plan.Change.{Change}
 use Rattle.smf_model.specs.Machine.{touches, effect, finished, next_session, is_live}
 use Rattle.smf_core.proofs.Indexed.{absent}
 use Rattle.smf_core.specs.Index.{place_in, AreApart, place_for}
 use Rattle.smf_core.specs.Lookup.{subject}
 use Rattle.smf_core.specs.Caches.{KeptAs, numbers_of, sessions_of, stepped_by}
-use Rattle.smf_core.specs.Plan.{changed, changed_all, map_at, IsReadyFor, IsReadyAt, AreReady, Fits}
+use Rattle.smf_core.specs.Plan.{changed, map_at, IsReadyFor, IsReadyAt, Fits}
 
 -- a session at a place
 
@@ -70,9 +70,13 @@ untouched (Changes session trigger moment) n s e h = let same : session ≡ n = 
 untouched (Tick moment) n s e h = cc
 untouched (Detach session abnormal moment) n s e h = let same : session ≡ n = cc in let other : (s.number == session) ≡ false = rw same h in ap (λ b. b && is_live s.life) other
 untouched (Answered session number reply) n s e h = let same : session ≡ n = cc in rw same h
+untouched (Attempt session peer) n s e h = let same : session ≡ n = cc in rw same h
+untouched (NotSent session) n s e h = let same : session ≡ n = cc in rw same h
+untouched (NoReply session) n s e h = let same : session ≡ n = cc in rw same h
+untouched Restart n s e h = cc
 
 pub stays : (event : SmfEvent) (setup : SmfSetup) (now n : ℕ) (s : Session) → subject event ≡ Some n → (s.number == n) ≡ false → next_session setup now event s ≡ s
-stays event setup now n s e h = ap (λ b. cond b (finished setup now (effect now event s)) s) (untouched event n s e h)
+stays event setup now n s e h = ap (λ b. cond b (finished setup now (effect setup now event s)) s) (untouched event n s e h)
 
 -- where no session has the number
 pub none_at : (f : Session → Session) (n : ℕ) (ss : List Session) → ((s : Session) → (s.number == n) ≡ false → f s ≡ s) → list_any (λ m. m == n) (numbers_of ss) ≡ false → map f ss ≡ ss
@@ -115,73 +119,6 @@ one_from f n j i (s ∷ ss) still apart h = at (s.number == n) refl h (λ k. one
 pub one_alone : (f : Session → Session) (n i : ℕ) (ss : List Session) → ((s : Session) → (s.number == n) ≡ false → f s ≡ s) → AreApart (numbers_of ss) → place_in (numbers_of ss) n ≡ Some i → map_at i f ss ≡ map f ss
 one_alone f n i ss still apart h = ap (λ k. map_at k f ss) (omega arith) ∙ one_from f n 0 i ss still apart h
 
--- all sessions
-
-pub changed-push : (cs : List Change) (c : Change) (ss : List Session) (s : Session) → length cs ≡ length ss → changed_all (cs ++ c ∷ []) (ss ++ s ∷ []) ≡ changed_all cs ss ++ changed c s ∷ []
-changed-push [] c [] s h = refl
-changed-push [] c (x ∷ ss) s h = absurd (omega (arith, h))
-changed-push (d ∷ cs) c [] s h = absurd (omega (arith, h))
-changed-push (d ∷ cs) c (x ∷ ss) s h = ap (λ xs. changed d x ∷ xs) (changed-push cs c ss s (omega (arith, h)))
-
-pub ready-push : (cs : List Change) (c : Change) (ks : List KeptAs) (k : KeptAs) → length cs ≡ length ks → AreReady cs ks → IsReadyFor c k → AreReady (cs ++ c ∷ []) (ks ++ k ∷ [])
-ready-push [] c [] k h r f = (f, tt)
-ready-push [] c (x ∷ ks) k h r f = absurd (omega (arith, h))
-ready-push (d ∷ cs) c [] k h r f = absurd r
-ready-push (d ∷ cs) c (x ∷ ks) k h r f = (r.0, ready-push cs c ks k (omega (arith, h)) r.1 f)
-
--- the last change of several, and those before it
-pub ready-last : (cs : List Change) (c : Change) (ks : List KeptAs) → AreReady (cs ++ c ∷ []) ks → IsReadyAt (length cs) c ks
-ready-last [] c [] h = absurd h
-ready-last [] c (k ∷ ks) h = h.0
-ready-last (d ∷ cs) c [] h = absurd h
-ready-last (d ∷ cs) c (k ∷ ks) h = ready-last cs c ks h.1
-
-pub ready-first : (cs : List Change) (c : Change) (ks : List KeptAs) (k : KeptAs) → AreReady (cs ++ c ∷ []) ks → AreReady cs (set ks (length cs) k)
-ready-first [] c ks k h = tt
-ready-first (d ∷ cs) c [] k h = absurd h
-ready-first (d ∷ cs) c (x ∷ ks) k h = (h.0, ready-first cs c ks k h.1)
-
-pub changed-last : (cs : List Change) (c : Change) (ss : List Session) → length cs < length ss → changed_all (cs ++ c ∷ []) ss ≡ changed_all cs (map_at (length cs) (changed c) ss)
-changed-last [] c [] h = absurd (omega (arith, h))
-changed-last [] c (s ∷ ss) h = refl
-changed-last (d ∷ cs) c [] h = absurd (omega (arith, h))
-changed-last (d ∷ cs) c (s ∷ ss) h = ap (λ xs. changed d s ∷ xs) (changed-last cs c ss (omega (arith, h)))
-
-get-session : (ks : List KeptAs) (i : ℕ) (d : KeptAs) → get_or (sessions_of ks) i d.session ≡ (get_or ks i d).session
-get-session [] i d = refl
-get-session (k ∷ ks) zero d = refl
-get-session (k ∷ ks) (suc i) d = get-session ks i d
-
--- one more session has its change
-pub made_turn : (f : Session → Session) (cs : List Change) (c : Change) (before ks : List KeptAs) (i : ℕ) (old : KeptAs) → i < length ks → get_or ks i old ≡ old → sessions_of ks ≡ sessions_of before → length cs ≡ i
-    → changed_all cs (take i (sessions_of before)) ≡ map f (take i (sessions_of before)) → changed c old.session ≡ f old.session
-    → changed_all (cs ++ c ∷ []) (take (i + 1) (sessions_of before)) ≡ map f (take (i + 1) (sessions_of before))
-made_turn f cs c before ks i old within it same long made one =
-    let ss : List Session = sessions_of before in
-    let wide : length ss ≡ length ks = sym (ap length same) ∙ length-map ks (λ (k : KeptAs). k.session) in
-    let below : i < length ss = omega (arith, wide) in
-    let here : get_or ss i old.session ≡ old.session = ap (λ xs. get_or xs i old.session) (sym same) ∙ get-session ks i old ∙ ap (λ (k : KeptAs). k.session) it in
-    let more : take (i + 1) ss ≡ take i ss ++ old.session ∷ [] = take_more ss i old.session below ∙ ap (λ s. take i ss ++ s ∷ []) here in
-    let front : length cs ≡ length (take i ss) = omega (arith, long, length-take i ss) in
-    ap (changed_all (cs ++ c ∷ [])) more ∙ changed-push cs c (take i ss) old.session front ∙ ap (λ xs. xs ++ changed c old.session ∷ []) made ∙ ap (λ s. map f (take i ss) ++ s ∷ []) one
-    ∙ sym (map-append f (take i ss) (old.session ∷ [])) ∙ ap (map f) (sym more)
-
-pub ready_turn : (cs : List Change) (c : Change) (ks : List KeptAs) (i : ℕ) (k old : KeptAs) → i < length ks → length cs ≡ i → AreReady cs (take i ks) → k.session ≡ old.session → Fits c old.session → 0 < k.room → AreReady (cs ++ c ∷ []) (take (i + 1) (set ks i k))
-ready_turn cs c ks i k old within long ready same fit room =
-    let front : length cs ≡ length (take i ks) = omega (arith, long, length-take i ks) in
-    let more : take (i + 1) (set ks i k) ≡ take i ks ++ k ∷ [] = ap (λ n. take n (set ks i k)) (add-one i) ∙ take-suc-set ks i k within in
-    subst (AreReady (cs ++ c ∷ [])) (sym more) (ready-push cs c (take i ks) k front ready (subst (Fits c) (sym same) fit, room))
-
--- an event without a session of its own touches all
-pub all_step : (event : SmfEvent) (setup : SmfSetup) (now : ℕ) (ss : List Session) → subject event ≡ None → map (stepped_by setup now event) ss ≡ map (next_session setup now event) ss
-all_step (Attach session subscriber groups moment) setup now ss e = cc
-all_step (Start session group moment) setup now ss e = cc
-all_step (Count session r) setup now ss e = cc
-all_step (Changes session trigger moment) setup now ss e = cc
-all_step (Tick moment) setup now ss e = refl
-all_step (Detach session abnormal moment) setup now ss e = cc
-all_step (Answered session number reply) setup now ss e = cc
-
 -- any other touches its own alone
 pub none_step : (event : SmfEvent) (setup : SmfSetup) (now n : ℕ) (ss : List Session) → subject event ≡ Some n → place_for (subject event) (numbers_of ss) ≡ None → ss ≡ map (next_session setup now event) ss
 none_step event setup now n ss e h =
@@ -196,7 +133,7 @@ one_within event n i ks e h =
 
 -- where it touches that
 pub touched_now : (event : SmfEvent) (setup : SmfSetup) (now : ℕ) (s : Session) → touches event s ≡ true → stepped_by setup now event s ≡ next_session setup now event s
-touched_now event setup now s h = ap (λ b. cond b (finished setup now (effect now event s)) s) (sym h)
+touched_now event setup now s h = ap (λ b. cond b (finished setup now (effect setup now event s)) s) (sym h)
 
 pub untouched_now : (event : SmfEvent) (setup : SmfSetup) (now : ℕ) (s : Session) → touches event s ≡ false → next_session setup now event s ≡ s
-untouched_now event setup now s h = ap (λ b. cond b (finished setup now (effect now event s)) s) h
+untouched_now event setup now s h = ap (λ b. cond b (finished setup now (effect setup now event s)) s) h

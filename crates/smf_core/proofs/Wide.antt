@@ -15,19 +15,23 @@ use Rattle.meter.specs.Joining.{extended}
 use Rattle.smf_model.specs.declared.setup.SmfSetup.{SmfSetup}
 use Rattle.smf_model.specs.declared.session.Life.{Life}
 use Rattle.smf_model.specs.declared.session.Life.TheVariants.{Live, Ending, Aborting, Ended}
+use Rattle.smf_model.specs.declared.session.Loss.{Loss}
+use Rattle.smf_model.specs.declared.session.Loss.TheVariants.{Unsent, Unanswered}
 use Rattle.smf_model.specs.declared.session.Why.{Why}
-use Rattle.smf_model.specs.declared.session.Why.TheVariants.{HeldFull, Refused as WasRefused}
+use Rattle.smf_model.specs.declared.session.Why.TheVariants.{NotSent as WhyNotSent, HeldFull, Refused as WasRefused}
 use Rattle.smf_model.specs.declared.session.Place.TheVariants.{Frozen, Answered as AnsweredPlace, GivenUp}
 use Rattle.smf_model.specs.declared.session.Holding.{Holding}
 use Rattle.smf_model.specs.declared.session.Entry.{Entry}
 use Rattle.smf_model.specs.declared.session.Session.{Session}
 use Rattle.smf_model.specs.declared.event.SmfEvent.{SmfEvent}
-use Rattle.smf_model.specs.declared.event.SmfEvent.TheVariants.{Attach, Start, Count, Change, Tick, Detach, Answered}
+use Rattle.smf_model.specs.declared.event.SmfEvent.TheVariants.{Attach, Start, Count, Change, Tick, Detach, Answered, Attempt, NotSent, NoReply, Restart}
 use Rattle.smf_model.specs.Rules.{is_immediate, is_immediate_for}
 use Rattle.std.proofs.lemmas.List.{length-map}
 use Rattle.smf_model.specs.Settle.{is_open, is_frozen, is_open_of, open_of, container_in, entry_of, due_with, due_in, due_at, fire, close, close_due, is_at_once, settled}
 use Rattle.smf_model.specs.Freeze.{waiting_count, move_oldest, dropped, live_operation, ending_operation, operation_in, next_operation, used_of, usages, usage_of, says_something, request_of, with_request, freeze_by, freeze_due}
 use Rattle.smf_model.specs.Traffic.{horizon_in, closes_before, close_of, extend_of, first_of, joined, started, counted, counted_by, close_any, has_open, is_change_at_once, changed, without_traffic, detached, ended, give_up, ended_for}
+use Rattle.smf_model.specs.Sending.{at_rest, latest_peer, with_peer}
+use Rattle.smf_model.specs.Rounds.{is_continue, with_loss, is_last, next_turn, next_round, continue_entry, broken_off, after_round, lost}
 use Rattle.smf_model.specs.Replies.{answer_holding, succeeded, released, replied, answered_by}
 use Rattle.smf_model.specs.Machine.{effect, finished}
 use Rattle.smf_core.specs.Draft.{joined_past, counted_past, effect_past}
@@ -181,7 +185,7 @@ detached_wide all true moment s = ap (λ (x : Session). record x { last = moment
 detached_wide all false moment s = ap (λ (x : Session). record x { last = moment }) (without_wide all Ending moment Final s)
 
 ended_wide : (all : List Holding) (now : ℕ) (s : Session) → ended now (wide all s) ≡ wide all (ended now s)
-ended_wide all now s = ap (λ (x : Session). record x { request = None }) (without_wide all Ended now AbnormalRelease s)
+ended_wide all now s = ap (λ (x : Session). record x { request = None; sending = at_rest }) (without_wide all Ended now AbnormalRelease s)
 
 ended_for_wide : (all : List Holding) (w : Why) (now : ℕ) (s : Session) → ended_for w now (wide all s) ≡ wide all (ended_for w now s)
 ended_for_wide all w now s =
@@ -203,19 +207,48 @@ replied_wide all now stamp (Refused problem) s = ended_for_wide all WasRefused n
 
 answered_wide : (all : List Holding) (now : ℕ) (p : Reply) (q : Option Request) (s : Session) → answered_by now p q (wide all s) ≡ wide all (answered_by now p q s)
 answered_wide all now p None s = refl
-answered_wide all now p (Some q) s = replied_wide all now q.stamp p s
+answered_wide all now p (Some q) s = ap (with_peer (latest_peer s)) (replied_wide all now q.stamp p s)
 
-effect_wide : (event : SmfEvent) (all : List Holding) (now : ℕ) (s : Session) → length (filter is_held all) ≤ length s.holdings → effect now event (wide all s) ≡ wide all (effect_past (past_count all) now event s)
-effect_wide (Attach session subscriber groups moment) all now s enough = refl
-effect_wide (Start session group moment) all now s enough = refl
-effect_wide (Count session r) all now s enough = counted_wide all r s enough
-effect_wide (Change session trigger moment) all now s enough = changed_wide all trigger moment s
-effect_wide (Tick moment) all now s enough = refl
-effect_wide (Detach session abnormal moment) all now s enough = detached_wide all abnormal moment s
-effect_wide (Answered session number reply) all now s enough = answered_wide all now reply s.request s
+broken_wide : (all : List Holding) (now : ℕ) (l : Life) (s : Session) → broken_off now l (wide all s) ≡ wide all (broken_off now l s)
+broken_wide all now Live s = without_wide all Aborting now AbnormalRelease s
+broken_wide all now Ending s = refl
+broken_wide all now Aborting s = refl
+broken_wide all now Ended s = refl
+
+round_wide : (all : List Holding) (setup : SmfSetup) (now : ℕ) (s : Session) → after_round setup now (wide all s) ≡ wide all (after_round setup now s)
+round_wide all setup now s = at (is_continue s.handling) s.sending.unsent
+  where
+    at : (c u : Bool) → cond c (record (next_round setup now (wide all s)) { groups = map continue_entry s.groups }) (cond u (ended_for WhyNotSent now (wide all s)) (next_round setup now (broken_off now s.life (wide all s))))
+        ≡ wide all (cond c (record (next_round setup now s) { groups = map continue_entry s.groups }) (cond u (ended_for WhyNotSent now s) (next_round setup now (broken_off now s.life s))))
+    at true u = refl
+    at false true = ended_for_wide all WhyNotSent now s
+    at false false = ap (next_round setup now) (broken_wide all now s.life s)
+
+lost_wide : (all : List Holding) (setup : SmfSetup) (now : ℕ) (loss : Loss) (s : Session) → lost setup now loss (wide all s) ≡ wide all (lost setup now loss s)
+lost_wide all setup now loss s = at (is_last s)
+  where
+    v : Session
+    v = with_loss loss s
+
+    at : (b : Bool) → cond b (after_round setup now (wide all v)) (next_turn (wide all v)) ≡ wide all (cond b (after_round setup now v) (next_turn v))
+    at true = round_wide all setup now v
+    at false = refl
+
+effect_wide : (event : SmfEvent) (setup : SmfSetup) (all : List Holding) (now : ℕ) (s : Session) → length (filter is_held all) ≤ length s.holdings → effect setup now event (wide all s) ≡ wide all (effect_past setup (past_count all) now event s)
+effect_wide (Attach session subscriber groups moment) setup all now s enough = refl
+effect_wide (Start session group moment) setup all now s enough = refl
+effect_wide (Count session r) setup all now s enough = counted_wide all r s enough
+effect_wide (Change session trigger moment) setup all now s enough = changed_wide all trigger moment s
+effect_wide (Tick moment) setup all now s enough = refl
+effect_wide (Detach session abnormal moment) setup all now s enough = detached_wide all abnormal moment s
+effect_wide (Answered session number reply) setup all now s enough = answered_wide all now reply s.request s
+effect_wide (Attempt session peer) setup all now s enough = refl
+effect_wide (NotSent session) setup all now s enough = lost_wide all setup now Unsent s
+effect_wide (NoReply session) setup all now s enough = lost_wide all setup now Unanswered s
+effect_wide Restart setup all now s enough = lost_wide all setup now Unanswered s
 
 pub next_wide_all : (event : SmfEvent) (setup : SmfSetup) (all : List Holding) (now : ℕ) (s : Session) → length (filter is_held all) ≤ length s.holdings
-    → finished setup now (effect now event (wide all s)) ≡ wide all (finished setup now (effect_past (past_count all) now event s))
+    → finished setup now (effect setup now event (wide all s)) ≡ wide all (finished setup now (effect_past setup (past_count all) now event s))
 next_wide_all event setup all now s enough =
-    ap (finished setup now) (effect_wide event all now s enough)
-    ∙ finished_wide all setup now (effect_past (past_count all) now event s)
+    ap (finished setup now) (effect_wide event setup all now s enough)
+    ∙ finished_wide all setup now (effect_past setup (past_count all) now event s)

@@ -81,6 +81,8 @@ session_with c s holdings = record {
   at_once = c.course.at_once;
   failover = c.course.failover;
   handling = c.course.handling;
+  peer = c.course.peer;
+  sending = c.course.sending;
   groups = c.groups;
   holdings = holdings;
   rules = rules_left s.rules c.rules;
@@ -124,6 +126,8 @@ after_change s course groups live rules pending = record {
   at_once = course.at_once;
   failover = course.failover;
   handling = course.handling;
+  peer = course.peer;
+  sending = course.sending;
   groups = groups;
   holdings = live;
   rules = rules_left s.rules rules;
@@ -140,4 +144,4 @@ numbers_of sessions = map (λ s. s.number) sessions
 
 -- what an event makes of a session that it touches
 abbrev pub stepped_by : SmfSetup → ℕ → SmfEvent → Session → Session
-stepped_by setup now event s = finished setup now (effect now event s)
+stepped_by setup now event s = finished setup now (effect setup now event s)

@@ -3,6 +3,7 @@ use Rattle.std.specs.Prelude.{ℕ, ◌+◌, List, [], ◌∷◌, ◌++◌, map, 
 use Rattle.std.specs.List.{list_any}
 use Rattle.units.specs.declared.report.Report.{Report}
 use Rattle.units.specs.declared.request.Request.{Request}
+use Rattle.smf_model.specs.declared.setup.SmfSetup.{SmfSetup}
 use Rattle.smf_model.specs.declared.session.Holding.{Holding}
 use Rattle.smf_model.specs.declared.session.Session.{Session}
 use Rattle.smf_core.specs.declared.draft.Course.{Course}
@@ -23,7 +24,7 @@ request_after before (New q) = Some q
 
 -- the numbers and marks of a session
 abbrev pub course_in : Session → Course
-course_in s = record { reference = s.reference; life = s.life; last = s.last; count = s.count; reports = s.reports; at_once = s.at_once; failover = s.failover; handling = s.handling }
+course_in s = record { reference = s.reference; life = s.life; last = s.last; count = s.count; reports = s.reports; at_once = s.at_once; failover = s.failover; handling = s.handling; peer = s.peer; sending = s.sending }
 
 -- the session
 abbrev pub whole : Session → Draft → Session
@@ -38,6 +39,8 @@ whole before d = record {
   at_once = d.course.at_once;
   failover = d.course.failover;
   handling = d.course.handling;
+  peer = d.course.peer;
+  sending = d.course.sending;
   groups = d.groups;
   holdings = d.holdings;
   rules = unwrap_or d.rules before.rules;
@@ -53,9 +56,9 @@ abbrev pub counted_past : ℕ → Report → Session → Session
 counted_past past r s = record (counted r s) { holdings = joined_past past r (map (close_of r.group r.moment (closes_before (horizon_in (entry_of r.group s.groups)) r (open_of r.group s.holdings))) s.holdings) }
 
 -- what an event does to such a session
-abbrev pub effect_past : ℕ → ℕ → SmfEvent → Session → Session
-effect_past past now (Count session r) s = counted_past past r s
-effect_past past now other s = effect now other s
+abbrev pub effect_past : SmfSetup → ℕ → ℕ → SmfEvent → Session → Session
+effect_past setup past now (Count session r) s = counted_past past r s
+effect_past setup past now other s = effect setup now other s
 
 -- the session that is added, if one is
 abbrev pub listed : Option Session → List Session

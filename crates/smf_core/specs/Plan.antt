@@ -4,8 +4,9 @@ use Rattle.smf_model.specs.declared.session.Session.{Session}
 use Rattle.smf_model.specs.declared.session.Machine.{Machine}
 use Rattle.smf_model.specs.declared.event.SmfEvent.{SmfEvent}
 use Rattle.smf_core.specs.declared.plan.Change.{Change}
+use Rattle.smf_core.specs.declared.plan.Turn.{Turn}
 use Rattle.smf_core.specs.declared.plan.Next.{Next}
-use Rattle.smf_core.specs.declared.plan.Next.TheVariants.{Nothing, One, All}
+use Rattle.smf_core.specs.declared.plan.Next.TheVariants.{Nothing, One, Several}
 use Rattle.smf_core.specs.declared.plan.SmfPlan.{SmfPlan}
 use Rattle.smf_model.specs.declared.refusal.SmfRefusal.{SmfRefusal}
 use Rattle.smf_model.specs.declared.refusal.SmfRefusal.TheVariants.{OutOfMemory}
@@ -33,17 +34,16 @@ map_at at f [] = []
 map_at zero f (s ∷ sessions) = f s ∷ sessions
 map_at (suc at) f (s ∷ sessions) = s ∷ map_at at f sessions
 
--- the sessions as changes leave them, one after another
-abbrev pub changed_all : List Change → List Session → List Session
-changed_all [] sessions = sessions
-changed_all (c ∷ changes) [] = []
-changed_all (c ∷ changes) (s ∷ sessions) = changed c s ∷ changed_all changes sessions
+-- the sessions as changes at places leave them
+abbrev pub turned : List Turn → List Session → List Session
+turned [] sessions = sessions
+turned (t ∷ turns) sessions = map_at t.at (changed t.change) (turned turns sessions)
 
 -- the sessions as the plan leaves them
 abbrev pub sessions_next : Next → List Session → List Session
 sessions_next Nothing sessions = sessions
-sessions_next (One at change) sessions = map_at at (changed change) sessions
-sessions_next (All changes) sessions = changed_all changes sessions
+sessions_next (One turn) sessions = map_at turn.at (changed turn.change) sessions
+sessions_next (Several turns) sessions = turned turns sessions
 
 -- the session that it adds, if it does
 abbrev pub added_in : Option KeptAs → List Session
@@ -75,17 +75,21 @@ IsReadyAt at c [] = ⊥
 IsReadyAt zero c (k ∷ kept) = IsReadyFor c k
 IsReadyAt (suc at) c (k ∷ kept) = IsReadyAt at c kept
 
--- so is each of several changes, one a session
-abbrev pub AreReady : List Change → List KeptAs → Type 0
+-- changes are at places beyond a place
+abbrev pub AreBeyond : ℕ → List Turn → Type 0
+AreBeyond at [] = Unit {0}
+AreBeyond at (t ∷ turns) = (at < t.at) × AreBeyond at turns
+
+-- so is each of several changes, in the order of their places
+abbrev pub AreReady : List Turn → List KeptAs → Type 0
 AreReady [] kept = Unit {0}
-AreReady (c ∷ changes) [] = ⊥
-AreReady (c ∷ changes) (k ∷ kept) = IsReadyFor c k × AreReady changes kept
+AreReady (t ∷ turns) kept = IsReadyAt t.at t.change kept × AreBeyond t.at turns × AreReady turns kept
 
 -- so are the changes of a plan
 abbrev pub NextIsReady : Next → List KeptAs → Type 0
 NextIsReady Nothing kept = Unit {0}
-NextIsReady (One at change) kept = IsReadyAt at change kept
-NextIsReady (All changes) kept = AreReady changes kept
+NextIsReady (One turn) kept = IsReadyAt turn.at turn.change kept
+NextIsReady (Several turns) kept = AreReady turns kept
 
 -- no session has the number of the one that is added, and there is a place for it
 abbrev pub AddedIsReady : Option KeptAs → List Session → ℕ → Type 0

@@ -8,11 +8,17 @@ use Rattle.smf_model.specs.declared.session.Place.{Place}
 use Rattle.smf_model.specs.declared.session.Place.TheVariants.{Open, Waiting, Frozen}
 use Rattle.smf_model.specs.declared.session.Holding.{Holding}
 use Rattle.smf_model.specs.declared.session.Session.{Session}
+use Rattle.smf_model.specs.declared.session.Peer.{Peer}
+use Rattle.smf_model.specs.Sending.{flight_of}
 use Rattle.smf_model.specs.Machine.{gate_for, expected_of}
 
 -- the unanswered request
 abbrev pub request_in : Option Session → Option Request
 request_in s = option_and_then (λ x. x.request) s
+
+-- the peer of its attempt that has no end
+abbrev pub flight_in : Option Session → Option Peer
+flight_in s = option_and_then flight_of s
 
 -- what becomes of a rating group's traffic, where there is such a session
 abbrev pub gate_at : ℕ → Option Session → Gate

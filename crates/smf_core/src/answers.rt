@@ -9,6 +9,7 @@ use crate::draft::{Draft, Pending, request_of, rules_of};
 use crate::ending::{end, end_for};
 use crate::freeze::is_frozen_place;
 use crate::rules::with_rules;
+use crate::sending::{at_rest, latest_of};
 use meter::Horizon;
 use smf_model::{Entry, Holding, Place, Rule, Session, Why};
 use std::alloc::Global;
@@ -192,6 +193,7 @@ fn succeed(
     let entries = answered_entries(alloc, stamp, answer.units.as_slice(), groups)?;
     let rules = rules_after(alloc, answer, groups, rules_of(before, draft).as_slice())?;
     draft.pending = Pending::Nothing;
+    draft.course.sending = at_rest();
     draft.course.reference = reference.or(draft.course.reference);
     draft.course.failover = answer.failover.unwrap_or(draft.course.failover);
     draft.course.handling = answer.handling.unwrap_or(draft.course.handling);
@@ -248,5 +250,8 @@ pub fn answer(
         None => return Ok(()),
         Some(request) => request.stamp,
     };
-    reply_to(alloc, now, stamp, reply, before, draft)
+    let peer = latest_of(before, draft);
+    reply_to(alloc, now, stamp, reply, before, draft)?;
+    draft.course.peer = peer;
+    Ok(())
 }

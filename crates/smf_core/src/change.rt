@@ -113,7 +113,7 @@ pub fn change_of(
     places: &[usize],
     count: usize,
 ) -> Result<Change, OutOfMemory>
-    ensures { IfOk result (λ c. IsMade c before.now places.now count (finished setup.now now (effect_past (count - length places.now) now event.now before.now))) }
+    ensures { IfOk result (λ c. IsMade c before.now places.now count (finished setup.now now (effect_past setup.now (count - length places.now) now event.now before.now))) }
 {
     let past = count.saturating_sub(places.len());
     let draft = draft_after(alloc, setup, past, now, event, before)?;

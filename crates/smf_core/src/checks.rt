@@ -1,15 +1,15 @@
 //! The checks of an event, in their order.
 ghost use Rattle.std.specs.Prelude.{◌≡◌, ◌==◌, length};
 ghost use Rattle.std.specs.List.{find};
-ghost use Rattle.std.specs.Option.{option_copied};
 ghost use Rattle.smf_model.specs.Settle.{entry_of};
-ghost use Rattle.smf_model.specs.Machine.{is_live, expected_in, expected_of, gate_in, gate_for, is_served, is_full_for, start_answer, count_answer, change_answer, detach_answer, reply_answer};
-ghost use Rattle.smf_core.specs.Lookup.{subject, answer_at, answer_without, answer_for};
+ghost use Rattle.smf_model.specs.Machine.{is_live, expected_in, expected_of, gate_in, gate_for, is_served, is_full_for, start_answer, count_answer, change_answer, detach_answer, reply_answer, attempt_by, loss_answer};
+ghost use Rattle.smf_core.specs.Lookup.{subject, answer_at, answer_without};
 
 use crate::answers::is_answer_to;
+use crate::sending::{is_sent, may_send};
 use crate::settle::entry_in;
 use quotas::{Gate, State};
-use smf_model::{Entry, Life, Seen, Session, SmfEvent, SmfRefusal};
+use smf_model::{Entry, Life, Peer, Seen, Session, SmfEvent, SmfRefusal};
 use units::{Moment, Reply, Report};
 
 fn is_live_session(session: &Session) -> bool
@@ -154,7 +154,32 @@ fn check_reply(number: u32, reply: &Reply, session: &Session) -> Result<Seen, Sm
     }
 }
 
-/// The session that an event is for; a tick is for all.
+fn check_attempt(
+    now: Moment,
+    next: Option<(u32, Peer)>,
+    peer: Peer,
+    session: &Session,
+) -> Result<Seen, SmfRefusal>
+    ensures { result ≡ attempt_by now next peer session.now }
+{
+    if may_send(now, session) && is_sent(session.number, peer, next) {
+        Ok(Seen::New)
+    } else {
+        Ok(Seen::Known)
+    }
+}
+
+fn check_loss(session: &Session) -> Result<Seen, SmfRefusal>
+    ensures { result ≡ loss_answer session.now }
+{
+    if session.sending.in_flight {
+        Ok(Seen::New)
+    } else {
+        Ok(Seen::Known)
+    }
+}
+
+/// The session that an event is for; a tick and a restart are for all.
 pub fn subject(event: &SmfEvent) -> Option<u32>
     ensures { result ≡ subject event.now }
 {
@@ -164,14 +189,22 @@ pub fn subject(event: &SmfEvent) -> Option<u32>
         | SmfEvent::Count { session, .. }
         | SmfEvent::Change { session, .. }
         | SmfEvent::Detach { session, .. }
-        | SmfEvent::Answered { session, .. } => Some(*session),
-        SmfEvent::Tick { .. } => None,
+        | SmfEvent::Answered { session, .. }
+        | SmfEvent::Attempt { session, .. }
+        | SmfEvent::NotSent { session }
+        | SmfEvent::NoReply { session } => Some(*session),
+        SmfEvent::Tick { .. } | SmfEvent::Restart => None,
     }
 }
 
-/// What the machine answers to an event, whose session is this one.
-pub fn check_found(event: &SmfEvent, session: &Session) -> Result<Seen, SmfRefusal>
-    ensures { result ≡ answer_at event.now session.now }
+/// What the machine answers to an event, whose session is this one, where this sends next.
+pub fn check_found(
+    now: Moment,
+    next: Option<(u32, Peer)>,
+    event: &SmfEvent,
+    session: &Session,
+) -> Result<Seen, SmfRefusal>
+    ensures { result ≡ answer_at now next event.now session.now }
 {
     match event {
         SmfEvent::Attach { .. } => Err(SmfRefusal::SessionExists),
@@ -182,12 +215,16 @@ pub fn check_found(event: &SmfEvent, session: &Session) -> Result<Seen, SmfRefus
         }
         SmfEvent::Detach { moment, .. } => check_detach(*moment, session),
         SmfEvent::Answered { number, reply, .. } => check_reply(*number, reply, session),
+        SmfEvent::Attempt { peer, .. } => check_attempt(now, next, *peer, session),
+        SmfEvent::NotSent { .. } | SmfEvent::NoReply { .. } | SmfEvent::Restart => {
+            check_loss(session)
+        }
     }
 }
 
-/// And to one whose session is not there; a tick has none.
-pub fn check_missing(now: Moment, event: &SmfEvent) -> Result<Seen, SmfRefusal>
-    ensures { result ≡ answer_without now event.now }
+/// And to one whose session is not there, where an attempt is in flight or not; a tick and a restart have none.
+pub fn check_missing(now: Moment, flies: bool, event: &SmfEvent) -> Result<Seen, SmfRefusal>
+    ensures { result ≡ answer_without now flies event.now }
 {
     match event {
         SmfEvent::Attach { groups, .. } => {
@@ -204,16 +241,13 @@ pub fn check_missing(now: Moment, event: &SmfEvent) -> Result<Seen, SmfRefusal>
                 Ok(Seen::New)
             }
         }
+        SmfEvent::Restart => {
+            if flies {
+                Ok(Seen::New)
+            } else {
+                Ok(Seen::Known)
+            }
+        }
         _ => Err(SmfRefusal::NoSession),
-    }
-}
-
-/// What the machine answers to an event, whose session is this one: the checks of each event, in order.
-pub fn check(now: Moment, found: Option<&Session>, event: &SmfEvent) -> Result<Seen, SmfRefusal>
-    ensures { result ≡ answer_for now (option_copied found.entry) event.now }
-{
-    match found {
-        Some(session) => check_found(event, session),
-        None => check_missing(now, event),
     }
 }

@@ -3,7 +3,7 @@ ghost use Rattle.std.specs.Prelude.{◌≡◌, IfOk};
 ghost use Rattle.std.specs.Option.{option_copied};
 ghost use Rattle.smf_core.specs.Draft.{whole, course_in, request_after};
 
-use smf_model::{Entry, Holding, Life, Rule, Session};
+use smf_model::{Entry, Holding, Life, Peer, Rule, Sending, Session};
 use std::alloc::Global;
 use units::{Handling, List, Moment, OutOfMemory, Request};
 
@@ -18,6 +18,8 @@ pub struct Course {
     pub at_once: bool,
     pub failover: bool,
     pub handling: Handling,
+    pub peer: Peer,
+    pub sending: Sending,
 }
 
 /// What became of the unanswered request of a session.
@@ -90,6 +92,8 @@ fn course_of(before: &Session) -> Course
         at_once: before.at_once,
         failover: before.failover,
         handling: before.handling,
+        peer: before.peer,
+        sending: before.sending,
     }
 }
 
@@ -133,6 +137,8 @@ pub fn into_session(before: Session, draft: Draft) -> Session
         at_once: course.at_once,
         failover: course.failover,
         handling: course.handling,
+        peer: course.peer,
+        sending: course.sending,
         groups,
         holdings,
         rules: rules.unwrap_or(rules_before),

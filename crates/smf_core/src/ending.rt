@@ -6,11 +6,13 @@ ghost use Rattle.smf_model.specs.Traffic.{without_traffic, detached, ended, give
 use crate::changes::all_closed;
 use crate::draft::{Draft, Pending};
 use crate::freeze::{is_frozen_place, is_waiting_place};
+use crate::sending::at_rest;
 use smf_model::{Holding, Life, Place, Session, Why};
 use std::alloc::Global;
 use units::{List, Moment, OutOfMemory, TriggerType};
 
-fn end_traffic(
+/// Traffic ends, and closes what is open.
+pub fn end_traffic(
     alloc: Global,
     life: Life,
     moment: Moment,
@@ -65,6 +67,7 @@ pub fn end(
     let trigger = TriggerType::AbnormalRelease;
     end_traffic(alloc, Life::Ended, now, trigger, before, draft)?;
     draft.pending = Pending::Nothing;
+    draft.course.sending = at_rest();
     Ok(())
 }
 

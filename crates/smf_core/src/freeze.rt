@@ -8,6 +8,7 @@ ghost use Rattle.smf_model.specs.Freeze.{waiting_count, move_oldest, dropped, is
 
 use crate::draft::{Draft, Pending, request_of};
 use crate::rules::changes_for;
+use crate::sending::at_rest;
 use smf_model::{Entry, Holding, Life, Place, Session, SmfSetup, Why};
 use std::alloc::Global;
 use units::{
@@ -286,6 +287,7 @@ pub fn freeze_request(
     draft.groups = List::from_vec(groups);
     draft.holdings = List::from_vec(holdings);
     draft.pending = Pending::New(request);
+    draft.course.sending = at_rest();
     Ok(())
 }
 

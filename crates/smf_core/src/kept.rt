@@ -3,6 +3,7 @@ ghost use Rattle.std.specs.Prelude.{◌≡◌, ◌<◌, ◌≤◌, ◌+◌, IfOk
 ghost use Rattle.std.specs.Option.{option_copied};
 ghost use Rattle.smf_model.specs.Machine.{touches, effect, finished, gate_for, expected_of};
 ghost use Rattle.smf_core.specs.Lookup.{answer_at};
+ghost use Rattle.smf_model.specs.Sending.{sooner, flight_of};
 ghost use Rattle.smf_core.specs.Reads.{is_held, containers_of, held_of};
 ghost use Rattle.smf_core.specs.Plan.{changed, Fits};
 ghost use Rattle.smf_core.specs.Caches.{put_places, places_from, rules_left, after_change};
@@ -11,9 +12,10 @@ use crate::change::{change_of, containers_from, held_from, is_held_holding};
 use crate::checks::{check_found, expected, gate};
 use crate::draft::{Course, Pending, request_left};
 use crate::plan::Change;
+use crate::sending::{in_flight, sooner_of};
 use crate::step::is_touched;
 use quotas::Gate;
-use smf_model::{Entry, Holding, Rule, Seen, Session, SmfEvent, SmfRefusal, SmfSetup};
+use smf_model::{Entry, Holding, Peer, Rule, Seen, Session, SmfEvent, SmfRefusal, SmfSetup};
 use std::alloc::Global;
 use std::marker::Model;
 use std::mem;
@@ -90,6 +92,8 @@ fn settle_in(
     session.at_once = course.at_once;
     session.failover = course.failover;
     session.handling = course.handling;
+    session.peer = course.peer;
+    session.sending = course.sending;
     session.groups = groups;
     session.holdings = live;
     if let Some(rules) = rules {
@@ -126,11 +130,37 @@ impl Kept {
         self.session.number
     }
 
-    /// The answer to an event that is for it.
-    pub fn check(&self, event: &SmfEvent) -> Result<Seen, SmfRefusal>
-        ensures { result ≡ answer_at event.now self.now.session }
+    /// The answer to an event that is for it, where this sends next.
+    pub fn check(
+        &self,
+        now: Moment,
+        next: Option<(u32, Peer)>,
+        event: &SmfEvent,
+    ) -> Result<Seen, SmfRefusal>
+        ensures { result ≡ answer_at now next event.now self.now.session }
     {
-        check_found(event, &self.session)
+        check_found(now, next, event, &self.session)
+    }
+
+    /// What sends so far, with it.
+    pub fn sooner(&self, now: Moment, best: Option<(u32, Peer)>) -> Option<(u32, Peer)>
+        ensures { result ≡ sooner now best self.now.session }
+    {
+        sooner_of(now, best, &self.session)
+    }
+
+    /// Whether an attempt of its unanswered request has no end.
+    pub fn flies(&self) -> bool
+        ensures { result ≡ self.now.session.sending.in_flight }
+    {
+        self.session.sending.in_flight
+    }
+
+    /// The peer of that attempt, `None` exactly where there is none.
+    pub fn in_flight(&self) -> Option<Peer>
+        ensures { result ≡ flight_of self.now.session }
+    {
+        in_flight(&self.session)
     }
 
     /// Whether an event touches it.
@@ -148,7 +178,7 @@ impl Kept {
         now: Moment,
         event: &SmfEvent,
     ) -> Result<Change, OutOfMemory>
-        ensures made { IfOk result (λ c. changed c self.old.session ≡ finished setup.now now (effect now event.now self.old.session)) }
+        ensures made { IfOk result (λ c. changed c self.old.session ≡ finished setup.now now (effect setup.now now event.now self.old.session)) }
         ensures fits { IfOk result (λ c. Fits c self.old.session) }
         ensures same { self.new.session ≡ self.old.session }
         ensures room { OnOk result (0 < self.new.room) }

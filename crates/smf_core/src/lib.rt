@@ -27,11 +27,13 @@ mod index;
 mod kept;
 mod next;
 mod plan;
+mod rounds;
 mod rules;
+mod sending;
 mod settle;
 mod smf;
 mod step;
 
 pub use plan::SmfPlan;
 pub use smf::Smf;
-pub use smf_model::{Seen, SmfEvent, SmfRefusal, SmfSetup};
+pub use smf_model::{Peer, Seen, SmfEvent, SmfRefusal, SmfSetup};

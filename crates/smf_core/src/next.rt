@@ -1,36 +1,41 @@
 //! The sessions that an event changes.
 ghost use Rattle.std.specs.Prelude.{◌≡◌, ◌<◌, IfOk, map, length, slice_set};
-ghost use Rattle.smf_model.specs.Machine.{next_session};
+ghost use Rattle.smf_model.specs.Machine.{next_session, any_flies};
+ghost use Rattle.smf_model.specs.Sending.{send_of};
 ghost use Rattle.smf_core.specs.Lookup.{subject};
 ghost use Rattle.smf_core.specs.Index.{AreApart, place_for};
-ghost use Rattle.smf_core.specs.Plan.{changed, sessions_next, changed_all, NextIsReady, AreReady, IsReadyAt, map_at};
-ghost use Rattle.smf_core.specs.Caches.{KeptAs, numbers_of, sessions_of, stepped_by};
+ghost use Rattle.smf_core.specs.Plan.{changed, sessions_next, turned, NextIsReady, AreReady, IsReadyAt, map_at};
+ghost use Rattle.smf_core.specs.Caches.{KeptAs, numbers_of, sessions_of};
 
 use crate::checks::subject;
 use crate::kept::Kept;
-use crate::plan::{Change, Next};
-use smf_model::{SmfEvent, SmfSetup};
+use crate::plan::{Change, Next, Turn};
+use smf_model::{Peer, SmfEvent, SmfSetup};
 use std::alloc::Global;
 use units::{List, Moment, OutOfMemory};
 
-// What an event that touches all makes of each session.
-fn all_changes(
+// What an event makes of each session that it touches.
+fn all_turns(
     alloc: Global,
     setup: &SmfSetup,
     now: Moment,
     event: &SmfEvent,
     sessions: &mut [Kept],
-) -> Result<Vec<Change>, OutOfMemory>
-    ensures made { IfOk result (λ v. changed_all v.items (sessions_of sessions.old) ≡ map (stepped_by setup.now now event.now) (sessions_of sessions.old)) }
+) -> Result<Vec<Turn>, OutOfMemory>
+    ensures made { IfOk result (λ v. turned v.items (sessions_of sessions.old) ≡ map (next_session setup.now now event.now) (sessions_of sessions.old)) }
     ensures ready { IfOk result (λ v. AreReady v.items sessions.new) }
     ensures same { sessions_of sessions.new ≡ sessions_of sessions.old }
 {
-    let mut changes = Vec::new(alloc);
+    let mut turns = Vec::new(alloc);
     for at in 0..sessions.len() {
-        let change = sessions[at].change(alloc, setup, now, event)?;
-        changes.push(change)?;
+        let kept = &mut sessions[at];
+        if !kept.is_touched(event) {
+            continue;
+        }
+        let change = kept.change(alloc, setup, now, event)?;
+        turns.push(Turn { at, change })?;
     }
-    Ok(changes)
+    Ok(turns)
 }
 
 // What an event makes of its own session.
@@ -52,11 +57,11 @@ fn one_change(
         return Ok(Next::Nothing);
     }
     let change = kept.change(alloc, setup, now, event)?;
-    Ok(Next::One { at, change })
+    Ok(Next::One(Turn { at, change }))
 }
 
 /// The sessions that an event changes, where this is the place of its own.
-pub fn next_for(
+pub fn next_turns(
     alloc: Global,
     setup: &SmfSetup,
     now: Moment,
@@ -72,8 +77,8 @@ pub fn next_for(
 {
     match subject(event) {
         None => {
-            let changes = all_changes(alloc, setup, now, event, sessions)?;
-            Ok(Next::All(List::from_vec(changes)))
+            let turns = all_turns(alloc, setup, now, event, sessions)?;
+            Ok(Next::Several(List::from_vec(turns)))
         }
         Some(_) => match place {
             None => Ok(Next::Nothing),
@@ -95,13 +100,14 @@ fn take_at(sessions: &mut [Kept], at: usize, change: Change)
 }
 
 // Each session takes its change.
-fn take_all(sessions: &mut [Kept], changes: List<Change>)
-    requires { AreReady changes sessions.old }
-    ensures { sessions_of sessions.new ≡ changed_all changes (sessions_of sessions.old) }
+fn take_all(sessions: &mut [Kept], turns: List<Turn>)
+    requires { AreReady turns sessions.old }
+    ensures { sessions_of sessions.new ≡ turned turns (sessions_of sessions.old) }
 {
-    let mut changes = changes.into_vec();
-    while let Some(change) = changes.pop() {
-        take_at(sessions, changes.len(), change);
+    let mut turns = turns.into_vec();
+    while let Some(turn) = turns.pop() {
+        let Turn { at, change } = turn;
+        take_at(sessions, at, change);
     }
 }
 
@@ -112,7 +118,33 @@ pub fn take_next(sessions: &mut [Kept], next: Next)
 {
     match next {
         Next::Nothing => {}
-        Next::One { at, change } => take_at(sessions, at, change),
-        Next::All(changes) => take_all(sessions, changes),
+        Next::One(turn) => {
+            let Turn { at, change } = turn;
+            take_at(sessions, at, change)
+        }
+        Next::Several(turns) => take_all(sessions, turns),
     }
+}
+
+/// What sends next: the least session that may send, and the next peer of its round.
+pub fn next_to_send(now: Moment, sessions: &[Kept]) -> Option<(u32, Peer)>
+    ensures { result ≡ send_of now (sessions_of sessions.now) }
+{
+    let mut best = None;
+    for kept in sessions {
+        best = kept.sooner(now, best);
+    }
+    best
+}
+
+/// Whether an attempt is in flight.
+pub fn any_in_flight(sessions: &[Kept]) -> bool
+    ensures { result ≡ any_flies (sessions_of sessions.now) }
+{
+    for kept in sessions {
+        if kept.flies() {
+            return true;
+        }
+    }
+    false
 }

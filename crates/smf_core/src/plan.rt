@@ -24,15 +24,22 @@ pub struct Change {
     pub pending: Pending,
 }
 
+/// A change of the session at a place.
+#[derive(Debug, Drop)]
+pub struct Turn {
+    pub at: usize,
+    pub change: Change,
+}
+
 /// The sessions that an event changes.
 #[derive(Debug, Drop)]
 pub enum Next {
     /// None.
     Nothing,
-    /// The one at a place.
-    One { at: usize, change: Change },
-    /// All.
-    All(List<Change>),
+    /// One.
+    One(Turn),
+    /// Some, in the order of their places.
+    Several(List<Turn>),
 }
 
 /// What an event makes of the machine, with all the memory that it takes; `Smf::plan` makes it, and `Smf::commit` takes it.

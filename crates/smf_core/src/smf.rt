@@ -1,21 +1,22 @@
 //! The machine: an event is planned, and then committed.
-ghost use Rattle.std.specs.Prelude.{◌≡◌, ◌<◌, ◌-◌, ◌++◌, [], IfOk, IfErr, OnOk, min, map, option_map, slice_get, vec_len, vec_capacity};
+ghost use Rattle.std.specs.Prelude.{◌≡◌, ◌<◌, ◌-◌, ◌++◌, [], IfOk, IfErr, OnOk, min, map, option_map, length, slice_get, vec_len, vec_capacity};
 ghost use Rattle.std.specs.Option.{option_copied};
 ghost use Rattle.smf_model.specs.declared.refusal.Seen.TheVariants.{New, Known as AlreadyKnown};
 ghost use Rattle.smf_model.specs.Machine.{answer_of, added_by, empty, session_of, stepped};
-ghost use Rattle.smf_core.specs.Lookup.{session_for};
-ghost use Rattle.smf_core.specs.Reads.{request_in, gate_at, expected_at, containers_in, held_in};
+ghost use Rattle.smf_core.specs.Lookup.{session_for, next_for, flies_for};
+ghost use Rattle.smf_model.specs.Sending.{send_of};
+ghost use Rattle.smf_core.specs.Reads.{request_in, flight_in, gate_at, expected_at, containers_in, held_in};
 ghost use Rattle.smf_core.specs.Plan.{added_in, applied, AddedIsReady, IsPlanOf, IsReady, IsRefused, NextIsReady, Takes};
 ghost use Rattle.smf_core.specs.Caches.{numbers_of, sessions_of};
 
 use crate::checks::{check_missing, subject};
 use crate::index::Index;
 use crate::kept::Kept;
-use crate::next::{next_for, take_next};
+use crate::next::{any_in_flight, next_to_send, next_turns, take_next};
 use crate::plan::{Next, SmfPlan};
 use crate::step::{added_session, moment_after};
 use quotas::Gate;
-use smf_model::{Seen, SmfEvent, SmfRefusal, SmfSetup, copy_setup};
+use smf_model::{Peer, Seen, SmfEvent, SmfRefusal, SmfSetup, copy_setup};
 use std::alloc::Global;
 use std::marker::Model;
 use units::{Container, Moment, OutOfMemory, Request};
@@ -101,12 +102,34 @@ impl Smf {
         }
     }
 
+    // What sends next, where an event is an attempt.
+    fn next_for(&self, event: &SmfEvent) -> Option<(u32, Peer)>
+        ensures { result ≡ next_for self.now.machine.moment self.now.machine.sessions event.now }
+    {
+        match event {
+            SmfEvent::Attempt { .. } => next_to_send(self.moment, &self.sessions),
+            _ => None,
+        }
+    }
+
+    // Whether an attempt is in flight, where an event is a restart.
+    fn flies_for(&self, event: &SmfEvent) -> bool
+        ensures { result ≡ flies_for self.now.machine.sessions event.now }
+    {
+        match event {
+            SmfEvent::Restart => any_in_flight(&self.sessions),
+            _ => false,
+        }
+    }
+
     fn check(&self, event: &SmfEvent) -> Result<Seen, SmfRefusal>
         ensures { result ≡ answer_of self.now.machine event.now }
     {
+        let next = self.next_for(event);
+        let flies = self.flies_for(event);
         match self.found(subject(event)) {
-            None => check_missing(self.moment, event),
-            Some(kept) => kept.check(event),
+            None => check_missing(self.moment, flies, event),
+            Some(kept) => kept.check(self.moment, next, event),
         }
     }
 
@@ -133,7 +156,7 @@ impl Smf {
         let now = moment_after(self.moment, event);
         let added = added_kept(alloc, &self.setup, now, event)?;
         let place = self.index.place(subject(event));
-        let next = next_for(alloc, &self.setup, now, event, place, &mut self.sessions)?;
+        let next = next_turns(alloc, &self.setup, now, event, place, &mut self.sessions)?;
         Ok(SmfPlan {
             seen: Seen::New,
             moment: now,
@@ -210,7 +233,32 @@ impl Smf {
         self.index.numbers()
     }
 
-    /// The unanswered request of a session, `None` exactly where there is none.
+    /// What sends next: the least session that may send, and the next peer of its round. A session may send where its request is unanswered,
+    /// no attempt of it is in flight, and it does not wait (TS 32.290, failure handling).
+    pub fn next_send(&self) -> Option<(u32, Peer)>
+        ensures { result ≡ send_of self.now.machine.moment self.now.machine.sessions }
+    {
+        next_to_send(self.moment, &self.sessions)
+    }
+
+    /// The peer of the attempt of a session's unanswered request that has no end, `None` exactly where there is none.
+    pub fn in_flight(&self, session: u32) -> Option<Peer>
+        ensures { result ≡ flight_in (session_of session self.now.machine.sessions) }
+    {
+        match self.found(Some(session)) {
+            None => None,
+            Some(kept) => kept.in_flight(),
+        }
+    }
+
+    /// How many sessions there are.
+    pub fn count(&self) -> usize
+        ensures { result ≡ length self.now.machine.sessions }
+    {
+        self.index.numbers().len()
+    }
+
+    /// The unanswered request of a session, with the mark of its next attempt; `None` exactly where there is none.
     pub fn request(&self, session: u32) -> Option<&Request>
         ensures { option_copied result ≡ request_in (session_of session self.now.machine.sessions) }
     {

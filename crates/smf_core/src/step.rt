@@ -11,8 +11,10 @@ use crate::counting::count;
 use crate::draft::{Draft, draft_of, into_session};
 use crate::ending::detach;
 use crate::freeze::{drop_oldest, freeze, freeze_request};
+use crate::rounds::lose;
+use crate::sending::{at_rest, attempt};
 use crate::settle::settle;
-use smf_model::{Entry, Life, Session, SmfEvent, SmfSetup};
+use smf_model::{Entry, Life, Loss, Peer, Session, SmfEvent, SmfSetup};
 use std::alloc::Global;
 use units::{List, Moment, Operation, OutOfMemory, Text, copy};
 
@@ -27,7 +29,11 @@ pub fn moment_after(now: Moment, event: &SmfEvent) -> Moment
         | SmfEvent::Tick { moment }
         | SmfEvent::Detach { moment, .. } => now.max(*moment),
         SmfEvent::Count { report, .. } => now.max(report.moment),
-        SmfEvent::Answered { .. } => now,
+        SmfEvent::Answered { .. }
+        | SmfEvent::Attempt { .. }
+        | SmfEvent::NotSent { .. }
+        | SmfEvent::NoReply { .. }
+        | SmfEvent::Restart => now,
     }
 }
 
@@ -57,19 +63,27 @@ pub fn is_touched(event: &SmfEvent, session: &Session) -> bool
         | SmfEvent::Answered {
             session: number,
             ..
-        } => session.number == *number,
+        }
+        | SmfEvent::Attempt {
+            session: number,
+            ..
+        }
+        | SmfEvent::NotSent { session: number }
+        | SmfEvent::NoReply { session: number } => session.number == *number,
+        SmfEvent::Restart => session.sending.in_flight,
     }
 }
 
 fn take_effect(
     alloc: Global,
+    setup: &SmfSetup,
     past: usize,
     now: Moment,
     event: &SmfEvent,
     before: &Session,
     draft: &mut Draft,
 ) -> Result<(), OutOfMemory>
-    ensures { OnOk result (whole before.now draft.new ≡ effect_past past now event.now (whole before.now draft.old)) }
+    ensures { OnOk result (whole before.now draft.new ≡ effect_past setup.now past now event.now (whole before.now draft.old)) }
 {
     match event {
         SmfEvent::Attach { .. } | SmfEvent::Tick { .. } => Ok(()),
@@ -86,6 +100,11 @@ fn take_effect(
             ..
         } => detach(alloc, *abnormal, *moment, before, draft),
         SmfEvent::Answered { reply, .. } => answer(alloc, now, reply, before, draft),
+        SmfEvent::Attempt { peer, .. } => attempt(*peer, before, draft),
+        SmfEvent::NotSent { .. } => lose(alloc, setup, now, Loss::Unsent, before, draft),
+        SmfEvent::NoReply { .. } | SmfEvent::Restart => {
+            lose(alloc, setup, now, Loss::Unanswered, before, draft)
+        }
     }
 }
 
@@ -112,10 +131,10 @@ pub fn draft_after(
     event: &SmfEvent,
     before: &Session,
 ) -> Result<Draft, OutOfMemory>
-    ensures { IfOk result (λ d. whole before.now d ≡ finished setup.now now (effect_past past now event.now before.now)) }
+    ensures { IfOk result (λ d. whole before.now d ≡ finished setup.now now (effect_past setup.now past now event.now before.now)) }
 {
     let mut draft = draft_of(alloc, before)?;
-    take_effect(alloc, past, now, event, before, &mut draft)?;
+    take_effect(alloc, setup, past, now, event, before, &mut draft)?;
     finish(alloc, setup, now, before, &mut draft)?;
     Ok(draft)
 }
@@ -153,6 +172,8 @@ fn fresh_session(
         at_once: false,
         failover: setup.failover,
         handling: setup.handling,
+        peer: Peer::Primary,
+        sending: at_rest(),
         groups: List::from_vec(groups),
         holdings: List::new(alloc),
         rules: List::new(alloc),

@@ -1,5 +1,5 @@
 -- Each part of an event leaves a session as its moves say.
-use Rattle.std.proofs.Common.{◌≡◌, ℕ, ◌-◌, ◌==◌, ◌&&◌, List, [], ◌∷◌, ◌++◌, refl, sym, ◌∙◌, ap, arith, Bool, true, false, cond, nat_lt, append_assoc}
+use Rattle.std.proofs.Common.{◌≡◌, ℕ, ◌-◌, ◌==◌, ◌&&◌, List, [], ◌∷◌, ◌++◌, map, refl, sym, ◌∙◌, ap, arith, Bool, true, false, cond, nat_lt, append_assoc}
 use Rattle.std.specs.Prelude.{Option, Some, None, is_some}
 use Rattle.units.specs.declared.trigger.TriggerType.{TriggerType}
 use Rattle.units.specs.declared.trigger.TriggerType.TheVariants.{AbnormalRelease}
@@ -12,26 +12,32 @@ use Rattle.sessions.specs.Trace.Move.{Closes, Drops, Freezes, Attempts, NotSent,
 use Rattle.smf_model.specs.declared.setup.SmfSetup.{SmfSetup}
 use Rattle.smf_model.specs.declared.session.Life.{Life}
 use Rattle.smf_model.specs.declared.session.Life.TheVariants.{Live, Ending, Aborting, Ended}
+use Rattle.smf_model.specs.declared.session.Peer.{Peer}
+use Rattle.smf_model.specs.declared.session.Loss.{Loss}
+use Rattle.smf_model.specs.declared.session.Loss.TheVariants.{Unsent, Unanswered}
 use Rattle.smf_model.specs.declared.session.Holding.{Holding}
 use Rattle.smf_model.specs.declared.session.Session.{Session}
 use Rattle.smf_model.specs.declared.event.SmfEvent.{SmfEvent}
-use Rattle.smf_model.specs.declared.event.SmfEvent.TheVariants.{Attach, Start, Count, Change, Tick, Detach, Answered}
+use Rattle.smf_model.specs.declared.event.SmfEvent.TheVariants.{Attach, Start, Count, Change, Tick, Detach, Answered, Attempt, NotSent as CameUnsent, NoReply as CameNoReply, Restart}
 use Rattle.smf_model.specs.Settle.{is_waiting, settled}
 use Rattle.smf_model.specs.Freeze.{waiting_count, next_operation, operation_in, request_of, freeze_due, freeze_by, with_request}
 use Rattle.smf_model.specs.Traffic.{counted, started, changed, detached}
+use Rattle.smf_model.specs.Sending.{unmarked, attempted, latest_peer, with_peer}
+use Rattle.smf_model.specs.Rounds.{with_loss, continue_entry, lost}
 use Rattle.smf_model.specs.Replies.{replied, answered_by}
 use Rattle.smf_model.specs.Machine.{is_live, is_ended, touches, effect, finished, next_session}
-use Rattle.smf_model.specs.Trace.{close_moves, closes_of, closes_all, settle_moves, freeze_moves, freeze_moves_by, drop_moves, finish_moves, ending_moves, reply_moves, effect_moves, session_moves, is_idle, Agrees}
+use Rattle.smf_model.specs.Trace.{close_moves, closes_of, closes_all, settle_moves, freeze_moves, freeze_moves_by, drop_moves, finish_moves, ending_moves, reply_moves, loss_move, lost_moves, effect_moves, session_moves, is_idle, Agrees}
+use Rattle.smf_model.proofs.Losing.{KeptByLoss, lost_kept, same_content, still_asked}
 
--- closes and drops alone
+-- closes, drops and attempts with their ends alone
 abbrev pub AreQuiet : List Move → Type 0
 AreQuiet [] = Unit {0}
 AreQuiet (Closes c ∷ ms) = AreQuiet ms
 AreQuiet (Drops lsn ∷ ms) = AreQuiet ms
 AreQuiet (Freezes q ∷ ms) = ⊥
-AreQuiet (Attempts ∷ ms) = ⊥
-AreQuiet (NotSent ∷ ms) = ⊥
-AreQuiet (NoReply ∷ ms) = ⊥
+AreQuiet (Attempts ∷ ms) = AreQuiet ms
+AreQuiet (NotSent ∷ ms) = AreQuiet ms
+AreQuiet (NoReply ∷ ms) = AreQuiet ms
 AreQuiet (GivesUp ∷ ms) = ⊥
 AreQuiet (Answers p ∷ ms) = ⊥
 
@@ -56,9 +62,9 @@ passes_one : (m : Move) (t : List Move) (s : Session) → AreQuiet (m ∷ []) �
 passes_one (Closes c) t s q h = record { count = h.count; unanswered = h.unanswered; numbered = h.numbered; when_idle = h.when_idle; idle = h.idle }
 passes_one (Drops lsn) t s q h = record { count = h.count; unanswered = h.unanswered; numbered = h.numbered; when_idle = h.when_idle; idle = h.idle }
 passes_one (Freezes r) t s q h = absurd q
-passes_one Attempts t s q h = absurd q
-passes_one NotSent t s q h = absurd q
-passes_one NoReply t s q h = absurd q
+passes_one Attempts t s q h = record { count = h.count; unanswered = h.unanswered; numbered = h.numbered; when_idle = h.when_idle; idle = h.idle }
+passes_one NotSent t s q h = record { count = h.count; unanswered = h.unanswered; numbered = h.numbered; when_idle = h.when_idle; idle = h.idle }
+passes_one NoReply t s q h = record { count = h.count; unanswered = h.unanswered; numbered = h.numbered; when_idle = h.when_idle; idle = h.idle }
 passes_one GivesUp t s q h = absurd q
 passes_one (Answers p) t s q h = absurd q
 
@@ -67,9 +73,9 @@ passes [] t s q h = h
 passes (Closes c ∷ ms) t s q h = passes_one (Closes c) (ms ++ t) s tt (passes ms t s q h)
 passes (Drops lsn ∷ ms) t s q h = passes_one (Drops lsn) (ms ++ t) s tt (passes ms t s q h)
 passes (Freezes r ∷ ms) t s q h = absurd q
-passes (Attempts ∷ ms) t s q h = absurd q
-passes (NotSent ∷ ms) t s q h = absurd q
-passes (NoReply ∷ ms) t s q h = absurd q
+passes (Attempts ∷ ms) t s q h = passes_one Attempts (ms ++ t) s tt (passes ms t s q h)
+passes (NotSent ∷ ms) t s q h = passes_one NotSent (ms ++ t) s tt (passes ms t s q h)
+passes (NoReply ∷ ms) t s q h = passes_one NoReply (ms ++ t) s tt (passes ms t s q h)
 passes (GivesUp ∷ ms) t s q h = absurd q
 passes (Answers p ∷ ms) t s q h = absurd q
 
@@ -100,7 +106,7 @@ freeze_agrees_by (Some o) setup now t s e h =
 same_agrees : (t : List Move) (s u : Session) → u.count ≡ s.count → u.request ≡ s.request → u.life ≡ s.life → Agrees t s → Agrees t u
 same_agrees t s u count request same h = record {
   count = count ∙ h.count;
-  unanswered = request ∙ h.unanswered;
+  unanswered = ap unmarked request ∙ h.unanswered;
   numbered = h.numbered;
   when_idle = h.when_idle;
   idle = λ none live. h.idle (ap is_some (sym request) ∙ none) (ap is_ended (sym same) ∙ live);
@@ -135,7 +141,7 @@ replied_agrees now stamp (Refused problem) t s h =
 
 answered_agrees : (now : ℕ) (p : Reply) (q : Option Request) (t : List Move) (s : Session) → Agrees t s → Agrees (reply_moves now p q s ++ t) (answered_by now p q s)
 answered_agrees now p None t s h = h
-answered_agrees now p (Some q) t s h = replied_agrees now q.stamp p t s h
+answered_agrees now p (Some q) t s h = same_agrees (reply_moves now p (Some q) s ++ t) (replied now q.stamp p s) (with_peer (latest_peer s) (replied now q.stamp p s)) refl refl refl (replied_agrees now q.stamp p t s h)
 
 -- Detaching, of a live session
 
@@ -149,24 +155,59 @@ detached_agrees : (abnormal : Bool) (moment : ℕ) (t : List Move) (s : Session)
 detached_agrees true moment t s live h = record { count = h.count; unanswered = h.unanswered; numbered = h.numbered; when_idle = h.when_idle; idle = λ none _. h.idle none (live_not_over s.life live) }
 detached_agrees false moment t s live h = record { count = h.count; unanswered = h.unanswered; numbered = h.numbered; when_idle = h.when_idle; idle = λ none _. h.idle none (live_not_over s.life live) }
 
+-- attempts and their ends
+
+attempted_agrees : (peer : Peer) (t : List Move) (s : Session) → Agrees t s → Agrees (Attempts ∷ t) (attempted peer s)
+attempted_agrees peer t s h = record {
+  count = h.count;
+  unanswered = same_content s.request ∙ h.unanswered;
+  numbered = h.numbered;
+  when_idle = h.when_idle;
+  idle = λ none live. h.idle (sym (still_asked s.request) ∙ none) live;
+}
+
+loss_quiet : (loss : Loss) → AreQuiet (loss_move loss ∷ [])
+loss_quiet Unsent = tt
+loss_quiet Unanswered = tt
+
+agrees_by_loss : KeptByLoss Agrees (λ o. Unit {0})
+agrees_by_loss = record {
+  sends = λ x t s flies unsent h. same_agrees t s (record s { sending = x }) refl refl refl h;
+  continues = λ t s h. same_agrees t s (record s { groups = map continue_entry s.groups }) refl refl refl h;
+  breaks = λ now t s live h.
+      let k = passes (closes_all now AbnormalRelease s) t s (closes_quiet now _ s.holdings) h in
+      record { count = k.count; unanswered = k.unanswered; numbered = k.numbered; when_idle = k.when_idle; idle = λ none _. k.idle none (live_not_over s.life live) };
+  gives_up = λ now t s landed unsent asked h.
+      let k = passes (closes_all now AbnormalRelease s) t s (closes_quiet now _ s.holdings) h in
+      record { count = k.count; unanswered = refl; numbered = k.numbered; when_idle = k.when_idle; idle = λ _ live. cc };
+}
+
+lost_agrees : (setup : SmfSetup) (now : ℕ) (loss : Loss) (t : List Move) (s : Session) → Agrees t s → Agrees (lost_moves now loss s ++ t) (lost setup now loss s)
+lost_agrees setup now loss t s h =
+    lost_kept Agrees (λ o. Unit {0}) agrees_by_loss setup now loss t s tt (passes (loss_move loss ∷ []) t (with_loss loss s) (loss_quiet loss) (same_agrees t s (with_loss loss s) refl refl refl h))
+
 second : (a b : Bool) → (a && b) ≡ true → b ≡ true
 second true b h = h
 second false b h = cc
 
-effect_agrees : (event : SmfEvent) (now : ℕ) (t : List Move) (s : Session) → touches event s ≡ true → Agrees t s → Agrees (effect_moves now event s ++ t) (effect now event s)
-effect_agrees (Attach session subscriber groups moment) now t s on h = h
-effect_agrees (Start session group moment) now t s on h = same_agrees t s (started group moment s) refl refl refl h
-effect_agrees (Count session r) now t s on h = same_agrees _ s (counted r s) refl refl refl (passes _ t s (closes_quiet r.moment _ s.holdings) h)
-effect_agrees (Change session trigger moment) now t s on h = same_agrees _ s (changed trigger moment s) refl refl refl (passes _ t s (closes_quiet moment _ s.holdings) h)
-effect_agrees (Tick moment) now t s on h = h
-effect_agrees (Detach session abnormal moment) now t s on h =
+effect_agrees : (event : SmfEvent) (setup : SmfSetup) (now : ℕ) (t : List Move) (s : Session) → touches event s ≡ true → Agrees t s → Agrees (effect_moves now event s ++ t) (effect setup now event s)
+effect_agrees (Attach session subscriber groups moment) setup now t s on h = h
+effect_agrees (Start session group moment) setup now t s on h = same_agrees t s (started group moment s) refl refl refl h
+effect_agrees (Count session r) setup now t s on h = same_agrees _ s (counted r s) refl refl refl (passes _ t s (closes_quiet r.moment _ s.holdings) h)
+effect_agrees (Change session trigger moment) setup now t s on h = same_agrees _ s (changed trigger moment s) refl refl refl (passes _ t s (closes_quiet moment _ s.holdings) h)
+effect_agrees (Tick moment) setup now t s on h = h
+effect_agrees (Detach session abnormal moment) setup now t s on h =
     detached_agrees abnormal moment _ s (second (s.number == session) _ on) (passes _ t s (closes_quiet moment _ s.holdings) h)
-effect_agrees (Answered session number reply) now t s on h = answered_agrees now reply s.request t s h
+effect_agrees (Answered session number reply) setup now t s on h = answered_agrees now reply s.request t s h
+effect_agrees (Attempt session peer) setup now t s on h = attempted_agrees peer t s h
+effect_agrees (CameUnsent session) setup now t s on h = lost_agrees setup now Unsent t s h
+effect_agrees (CameNoReply session) setup now t s on h = lost_agrees setup now Unanswered t s h
+effect_agrees Restart setup now t s on h = lost_agrees setup now Unanswered t s h
 
 next_agrees_by : (b : Bool) (event : SmfEvent) (setup : SmfSetup) (now : ℕ) (t : List Move) (s : Session) → touches event s ≡ b → Agrees t s
-    → Agrees (cond b (finish_moves setup now (effect now event s) ++ effect_moves now event s) [] ++ t) (cond b (finished setup now (effect now event s)) s)
+    → Agrees (cond b (finish_moves setup now (effect setup now event s) ++ effect_moves now event s) [] ++ t) (cond b (finished setup now (effect setup now event s)) s)
 next_agrees_by true event setup now t s on h =
-    rw append_assoc (finished_agrees setup now _ (effect now event s) (effect_agrees event now t s on h))
+    rw append_assoc (finished_agrees setup now _ (effect setup now event s) (effect_agrees event setup now t s on h))
 next_agrees_by false event setup now t s on h = h
 
 pub next_agrees : (event : SmfEvent) (setup : SmfSetup) (now : ℕ) (t : List Move) (s : Session) → Agrees t s → Agrees (session_moves setup now event s ++ t) (next_session setup now event s)

@@ -12,7 +12,7 @@ use Rattle.smf_model.specs.declared.setup.SmfSetup.{SmfSetup}
 use Rattle.smf_model.specs.declared.session.Session.{Session}
 use Rattle.smf_model.specs.declared.session.Machine.{Machine}
 use Rattle.smf_model.specs.declared.event.SmfEvent.{SmfEvent}
-use Rattle.smf_model.specs.declared.event.SmfEvent.TheVariants.{Attach, Start, Count, Change, Tick, Detach, Answered}
+use Rattle.smf_model.specs.declared.event.SmfEvent.TheVariants.{Attach, Start, Count, Change, Tick, Detach, Answered, Attempt, NotSent as CameUnsent, NoReply as CameNoReply, Restart}
 use Rattle.smf_model.specs.declared.refusal.Seen.{Seen}
 use Rattle.smf_model.specs.declared.refusal.Seen.TheVariants.{New, Known}
 use Rattle.smf_model.specs.declared.refusal.SmfRefusal.{SmfRefusal}
@@ -126,6 +126,10 @@ event_new (Change session trigger moment) m s n new found = refl
 event_new (Tick moment) m s n new found = refl
 event_new (Detach session abnormal moment) m s n new found = refl
 event_new (Answered session place reply) m s n new found = refl
+event_new (Attempt session peer) m s n new found = refl
+event_new (CameUnsent session) m s n new found = refl
+event_new (CameNoReply session) m s n new found = refl
+event_new Restart m s n new found = refl
 
 added_alone : (event : SmfEvent) (setup : SmfSetup) (now : ℕ) → SessionsAreApart (added_by setup now event)
 added_alone (Attach session subscriber groups moment) setup now = (refl, tt)
@@ -135,6 +139,10 @@ added_alone (Change session trigger moment) setup now = tt
 added_alone (Tick moment) setup now = tt
 added_alone (Detach session abnormal moment) setup now = tt
 added_alone (Answered session place reply) setup now = tt
+added_alone (Attempt session peer) setup now = tt
+added_alone (CameUnsent session) setup now = tt
+added_alone (CameNoReply session) setup now = tt
+added_alone Restart setup now = tt
 
 step_apart : (r : Result Seen SmfRefusal) (m : Machine) (event : SmfEvent) → answer_of m event ≡ r → SessionsAreApart m.sessions → SessionsAreApart (after_answer m event r).sessions
 step_apart (Ok New) m event new h =

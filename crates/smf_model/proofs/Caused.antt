@@ -1,5 +1,10 @@
 -- A reply is an answer only by its event.
-use Rattle.std.proofs.Common.{◌≡◌, ℕ, ◌-◌, ◌==◌, ◌&&◌, nat_lt, Bool, true, false, cond, List, [], ◌∷◌, ◌++◌, length, refl, sym, ◌∙◌, ap, subst, arith}
+use Rattle.smf_model.proofs.Losing.{KeptByLoss, lost_kept}
+use Rattle.sessions.specs.Content.{content}
+use Rattle.units.specs.declared.trigger.TriggerType.TheVariants.{AbnormalRelease}
+use Rattle.smf_model.specs.declared.session.Loss.TheVariants.{Unsent, Unanswered}
+use Rattle.smf_model.specs.declared.session.Loss.{Loss}
+use Rattle.std.proofs.Common.{◌≡◌, ℕ, ◌-◌, ◌==◌, ◌&&◌, nat_lt, Bool, true, false, cond, List, [], ◌∷◌, ◌++◌, length, refl, sym, ◌∙◌, ap, subst, arith, append-nil}
 use Rattle.std.specs.Prelude.{Option, Some, None, Result, Ok, Err}
 use Rattle.std.proofs.lemmas.Bool.{eqb-true, and_parts}
 use Rattle.units.specs.declared.trigger.TriggerType.{TriggerType}
@@ -15,15 +20,16 @@ use Rattle.smf_model.specs.declared.session.Holding.{Holding}
 use Rattle.smf_model.specs.declared.session.Session.{Session}
 use Rattle.smf_model.specs.declared.session.Machine.{Machine}
 use Rattle.smf_model.specs.declared.event.SmfEvent.{SmfEvent}
-use Rattle.smf_model.specs.declared.event.SmfEvent.TheVariants.{Attach, Start, Count, Change, Tick, Detach, Answered}
+use Rattle.smf_model.specs.declared.event.SmfEvent.TheVariants.{Attach, Start, Count, Change, Tick, Detach, Answered, Attempt, NotSent as CameUnsent, NoReply as CameNoReply, Restart}
 use Rattle.smf_model.specs.declared.refusal.Seen.{Seen}
 use Rattle.smf_model.specs.declared.refusal.Seen.TheVariants.{New, Known}
 use Rattle.smf_model.specs.declared.refusal.SmfRefusal.{SmfRefusal}
 use Rattle.smf_model.specs.Settle.{is_waiting, settled}
 use Rattle.smf_model.specs.Freeze.{waiting_count, next_operation, request_of, freeze_due, with_request}
 use Rattle.smf_model.specs.Replies.{is_final_for, is_answer_to}
+use Rattle.smf_model.specs.Sending.{unmarked}
 use Rattle.smf_model.specs.Machine.{machine_after, answer_of, now_after, session_of, touches, effect, fresh}
-use Rattle.smf_model.specs.Trace.{trace, close_moves, closes_of, settle_moves, freeze_moves_by, drop_moves, finish_moves, ending_moves, reply_moves, effect_moves, added_moves, moves_of, moves_if, unanswered}
+use Rattle.smf_model.specs.Trace.{trace, close_moves, closes_of, settle_moves, freeze_moves_by, drop_moves, finish_moves, ending_moves, reply_moves, effect_moves, added_moves, moves_of, moves_if, unanswered, closes_all, loss_move, lost_moves}
 use Rattle.smf_model.specs.Causes.{AreCaused}
 use Rattle.smf_model.proofs.Lifting.{FoundIs, found_is, IsNew, is_new, With}
 use Rattle.smf_model.proofs.Placed.{closes_leave}
@@ -134,25 +140,45 @@ replied_caused now session place number p q t s here is = (
     ending_none Released = closes_none now _ s.holdings
     ending_none (Refused problem) = closes_none now _ s.holdings
 
-answered_caused : (now session place number : ℕ) (p : Reply) (o : Option Request) (t : List Move) (s : Session) → IsTrace t → unanswered t ≡ o → session ≡ number → is_answer_to place p o ≡ true
+answered_caused : (now session place number : ℕ) (p : Reply) (o : Option Request) (t : List Move) (s : Session) → IsTrace t → unanswered t ≡ unmarked o → session ≡ number → is_answer_to place p o ≡ true
     → AreCaused (Answered session place p) number t (reply_moves now p o s)
 answered_caused now session place number p None t s v is here final = tt
 answered_caused now session place number p (Some q) t s v is here final =
-    replied_caused now session place number p q t s here (sym (eqb-true q.number place (and_parts (q.number == place) (is_final_for q.operation p place) final).0) ∙ newest_number t q v is)
+    replied_caused now session place number p q t s here (sym (eqb-true q.number place (and_parts (q.number == place) (is_final_for q.operation p place) final).0) ∙ newest_number t (content q) v is)
 
-effect_caused : (event : SmfEvent) (now number : ℕ) (t : List Move) (s : Session) → (s.number == number) ≡ true → touches event s ≡ true → IsNew event s → StandsWhole t s → AreCaused event number t (effect_moves now event s)
-effect_caused (Attach session subscriber groups moment) now number t s is on new w = tt
-effect_caused (Start session group moment) now number t s is on new w = tt
-effect_caused (Count session r) now number t s is on new w = none_caused (Count session r) number t _ (closes_none r.moment _ s.holdings)
-effect_caused (Change session trigger moment) now number t s is on new w = none_caused (Change session trigger moment) number t _ (closes_none moment _ s.holdings)
-effect_caused (Tick moment) now number t s is on new w = tt
-effect_caused (Detach session abnormal moment) now number t s is on new w = none_caused (Detach session abnormal moment) number t _ (closes_none moment _ s.holdings)
-effect_caused (Answered session place reply) now number t s is on new w =
+-- the end of an attempt brings none
+none_by_loss : KeptByLoss (λ t s. NoReplies t) (λ o. Unit {0})
+none_by_loss = record {
+  sends = λ x t s flies unsent n. n;
+  continues = λ t s n. n;
+  breaks = λ now t s live n. both_none (closes_all now AbnormalRelease s) t (closes_none now _ s.holdings) n;
+  gives_up = λ now t s landed unsent asked n. both_none (closes_all now AbnormalRelease s) t (closes_none now _ s.holdings) n;
+}
+
+one_none : (loss : Loss) → NoReplies (loss_move loss ∷ [])
+one_none Unsent = tt
+one_none Unanswered = tt
+
+loss_none : (setup : SmfSetup) (now : ℕ) (loss : Loss) (s : Session) → NoReplies (lost_moves now loss s)
+loss_none setup now loss s = subst NoReplies (append-nil (lost_moves now loss s)) (lost_kept (λ t u. NoReplies t) (λ o. Unit {0}) none_by_loss setup now loss [] s tt (one_none loss))
+
+effect_caused : (event : SmfEvent) (setup : SmfSetup) (now number : ℕ) (t : List Move) (s : Session) → (s.number == number) ≡ true → touches event s ≡ true → IsNew event s → StandsWhole t s → AreCaused event number t (effect_moves now event s)
+effect_caused (Attach session subscriber groups moment) setup now number t s is on new w = tt
+effect_caused (Start session group moment) setup now number t s is on new w = tt
+effect_caused (Count session r) setup now number t s is on new w = none_caused (Count session r) number t _ (closes_none r.moment _ s.holdings)
+effect_caused (Change session trigger moment) setup now number t s is on new w = none_caused (Change session trigger moment) number t _ (closes_none moment _ s.holdings)
+effect_caused (Tick moment) setup now number t s is on new w = tt
+effect_caused (Detach session abnormal moment) setup now number t s is on new w = none_caused (Detach session abnormal moment) number t _ (closes_none moment _ s.holdings)
+effect_caused (Answered session place reply) setup now number t s is on new w =
     answered_caused now session place number reply s.request t s w.0.valid (sym w.0.unanswered) (sym (eqb-true s.number session on) ∙ eqb-true s.number number is) (is_final_answer place reply s (new on))
+effect_caused (Attempt session peer) setup now number t s is on new w = (tt, tt)
+effect_caused (CameUnsent session) setup now number t s is on new w = none_caused (CameUnsent session) number t (lost_moves now Unsent s) (loss_none setup now Unsent s)
+effect_caused (CameNoReply session) setup now number t s is on new w = none_caused (CameNoReply session) number t (lost_moves now Unanswered s) (loss_none setup now Unanswered s)
+effect_caused Restart setup now number t s is on new w = none_caused Restart number t (lost_moves now Unanswered s) (loss_none setup now Unanswered s)
 
 session_caused : (b : Bool) (event : SmfEvent) (setup : SmfSetup) (now number : ℕ) (t : List Move) (s : Session) → (s.number == number) ≡ true → touches event s ≡ b → IsNew event s → StandsWhole t s
-    → AreCaused event number t (cond b (finish_moves setup now (effect now event s) ++ effect_moves now event s) [])
-session_caused true event setup now number t s is on new w = before_caused event number t (finish_moves setup now (effect now event s)) (effect_moves now event s) (finish_none setup now (effect now event s)) (effect_caused event now number t s is on new w)
+    → AreCaused event number t (cond b (finish_moves setup now (effect setup now event s) ++ effect_moves now event s) [])
+session_caused true event setup now number t s is on new w = before_caused event number t (finish_moves setup now (effect setup now event s)) (effect_moves now event s) (finish_none setup now (effect setup now event s)) (effect_caused event setup now number t s is on new w)
 session_caused false event setup now number t s is on new w = tt
 
 created_none : (b : Bool) (xs : List Move) → NoReplies xs → NoReplies (cond b xs [])
@@ -171,6 +197,10 @@ added_caused (Change session trigger moment) setup now number t = tt
 added_caused (Tick moment) setup now number t = tt
 added_caused (Detach session abnormal moment) setup now number t = tt
 added_caused (Answered session place reply) setup now number t = tt
+added_caused (Attempt session peer) setup now number t = tt
+added_caused (CameUnsent session) setup now number t = tt
+added_caused (CameNoReply session) setup now number t = tt
+added_caused Restart setup now number t = tt
 
 found_caused : (o : Option Session) (event : SmfEvent) (setup : SmfSetup) (now number : ℕ) (t : List Move) → FoundIs number o → ((s : Session) → o ≡ Some s → IsNew event s) → With StandsWhole t o → AreCaused event number t (moves_of setup now number event o)
 found_caused None event setup now number t is new h = added_caused event setup now number t

@@ -1,4 +1,8 @@
 -- After any events each request of a session holds the oldest waiting containers.
+use Rattle.smf_model.proofs.Sends.{settled_sends, asking_sends}
+use Rattle.smf_model.proofs.Losing.{KeptByLoss, lost_kept}
+use Rattle.smf_model.specs.declared.session.Loss.TheVariants.{Unsent, Unanswered}
+use Rattle.smf_model.specs.declared.session.Loss.{Loss}
 use Rattle.std.proofs.Common.{◌≡◌, ℕ, ◌-◌, ◌==◌, ◌&&◌, nat_lt, Bool, true, false, cond, List, [], ◌∷◌, ◌++◌, refl, sym, ap, subst, append_assoc, append-nil}
 use Rattle.std.specs.Prelude.{Option, Some, None, is_some}
 use Rattle.units.specs.declared.trigger.TriggerType.{TriggerType}
@@ -13,11 +17,11 @@ use Rattle.smf_model.specs.declared.setup.SmfSetup.{SmfSetup}
 use Rattle.smf_model.specs.declared.session.Holding.{Holding}
 use Rattle.smf_model.specs.declared.session.Session.{Session}
 use Rattle.smf_model.specs.declared.event.SmfEvent.{SmfEvent}
-use Rattle.smf_model.specs.declared.event.SmfEvent.TheVariants.{Attach, Start, Count, Change, Tick, Detach, Answered}
+use Rattle.smf_model.specs.declared.event.SmfEvent.TheVariants.{Attach, Start, Count, Change, Tick, Detach, Answered, Attempt, NotSent, NoReply, Restart}
 use Rattle.smf_model.specs.Settle.{is_waiting, settled}
 use Rattle.smf_model.specs.Freeze.{waiting_count, next_operation, request_of, freeze_due, with_request}
 use Rattle.smf_model.specs.Machine.{machine_after, session_of, touches, effect, finished, fresh, added_by}
-use Rattle.smf_model.specs.Trace.{trace, close_moves, closes_of, settle_moves, freeze_moves_by, drop_moves, finish_moves, reply_moves, effect_moves, moves_of, added_moves}
+use Rattle.smf_model.specs.Trace.{trace, close_moves, closes_of, settle_moves, freeze_moves_by, drop_moves, finish_moves, reply_moves, effect_moves, moves_of, added_moves, loss_move, lost_moves}
 use Rattle.smf_model.specs.History.{history}
 use Rattle.smf_model.specs.Contents.{AreContents}
 use Rattle.smf_model.proofs.Runs.{number-next}
@@ -50,14 +54,33 @@ replied_contents now (Updated answer) (Some q) t s a = a
 replied_contents now Released (Some q) t s a = closes_contents now _ s.holdings t a
 replied_contents now (Refused problem) (Some q) t s a = closes_contents now _ s.holdings t a
 
-effect_contents : (event : SmfEvent) (now : ℕ) (t : List Move) (s : Session) → AreContents t → AreContents (effect_moves now event s ++ t)
-effect_contents (Attach session subscriber groups moment) now t s a = a
-effect_contents (Start session group moment) now t s a = a
-effect_contents (Count session r) now t s a = closes_contents r.moment _ s.holdings t a
-effect_contents (Change session trigger moment) now t s a = closes_contents moment _ s.holdings t a
-effect_contents (Tick moment) now t s a = a
-effect_contents (Detach session abnormal moment) now t s a = closes_contents moment _ s.holdings t a
-effect_contents (Answered session number reply) now t s a = replied_contents now reply s.request t s a
+contents_by_loss : KeptByLoss (λ t s. AreContents t) (λ o. Unit {0})
+contents_by_loss = record {
+  sends = λ x t s flies unsent a. a;
+  continues = λ t s a. a;
+  breaks = λ now t s live a. closes_contents now _ s.holdings t a;
+  gives_up = λ now t s landed unsent asked a. closes_contents now _ s.holdings t a;
+}
+
+loss_contents : (loss : Loss) (t : List Move) → AreContents t → AreContents (loss_move loss ∷ t)
+loss_contents Unsent t a = a
+loss_contents Unanswered t a = a
+
+lost_contents : (setup : SmfSetup) (now : ℕ) (loss : Loss) (t : List Move) (s : Session) → AreContents t → AreContents (lost_moves now loss s ++ t)
+lost_contents setup now loss t s a = lost_kept (λ u v. AreContents u) (λ o. Unit {0}) contents_by_loss setup now loss t s tt (loss_contents loss t a)
+
+effect_contents : (event : SmfEvent) (setup : SmfSetup) (now : ℕ) (t : List Move) (s : Session) → AreContents t → AreContents (effect_moves now event s ++ t)
+effect_contents (Attach session subscriber groups moment) setup now t s a = a
+effect_contents (Start session group moment) setup now t s a = a
+effect_contents (Count session r) setup now t s a = closes_contents r.moment _ s.holdings t a
+effect_contents (Change session trigger moment) setup now t s a = closes_contents moment _ s.holdings t a
+effect_contents (Tick moment) setup now t s a = a
+effect_contents (Detach session abnormal moment) setup now t s a = closes_contents moment _ s.holdings t a
+effect_contents (Answered session number reply) setup now t s a = replied_contents now reply s.request t s a
+effect_contents (Attempt session peer) setup now t s a = a
+effect_contents (NotSent session) setup now t s a = lost_contents setup now Unsent t s a
+effect_contents (NoReply session) setup now t s a = lost_contents setup now Unanswered t s a
+effect_contents Restart setup now t s a = lost_contents setup now Unanswered t s a
 
 freeze_contents : (next : Option Operation) (setup : SmfSetup) (now : ℕ) (t : List Move) (s : Session) → next_operation setup s ≡ next → StandsWhole t s → AreContents t → AreContents (freeze_moves_by setup now s next ++ t)
 freeze_contents None setup now t s e h a = a
@@ -71,7 +94,7 @@ finished_contents setup now t s h a =
     let w : Session = freeze_due setup now v in
     let c : List Move = settle_moves setup now s in
     let f : List Move = freeze_moves_by setup now v (next_operation setup v) in
-    let closed : StandsWhole (c ++ t) v = (settled_stands setup now t s h.0, settled_entries setup now s h.1) in
+    let closed : StandsWhole (c ++ t) v = (settled_stands setup now t s h.0, settled_entries setup now s h.1, settled_sends setup now t s h.2) in
     let k : AreContents (f ++ (c ++ t)) = freeze_contents (next_operation setup v) setup now (c ++ t) v refl closed (closes_contents now _ s.holdings t a) in
     rw (append_assoc, append_assoc) (drops_contents (waiting_count w.holdings - setup.held_max) w.holdings (f ++ (c ++ t)) k)
 
@@ -79,10 +102,10 @@ abbrev Both : List Move → Session → Type 0
 Both t s = StandsWhole t s × AreContents t
 
 next_by : (b : Bool) (event : SmfEvent) (setup : SmfSetup) (now : ℕ) (t : List Move) (s : Session) → touches event s ≡ b → IsNew event s → Both t s
-    → AreContents (cond b (finish_moves setup now (effect now event s) ++ effect_moves now event s) [] ++ t)
+    → AreContents (cond b (finish_moves setup now (effect setup now event s) ++ effect_moves now event s) [] ++ t)
 next_by true event setup now t s on new h =
-    subst AreContents (sym (append_assoc (finish_moves setup now (effect now event s)) (effect_moves now event s) t))
-    (finished_contents setup now (effect_moves now event s ++ t) (effect now event s) (effect_whole event now t s on new h.0) (effect_contents event now t s h.1))
+    subst AreContents (sym (append_assoc (finish_moves setup now (effect setup now event s)) (effect_moves now event s) t))
+    (finished_contents setup now (effect_moves now event s ++ t) (effect setup now event s) (effect_whole event setup now t s on new h.0) (effect_contents event setup now t s h.1))
 next_by false event setup now t s on new h = h.1
 
 created_contents : (setup : SmfSetup) (now number : ℕ) (subscriber groups : List ℕ) (moment : ℕ)
@@ -91,7 +114,7 @@ created_contents setup now number subscriber groups moment =
     let s : Session = fresh setup number subscriber groups moment in
     let h : StandsWhole [] s = fresh_whole setup number subscriber groups moment in
     finished_contents setup now (Freezes (request_of setup now s Create) ∷ []) (with_request setup now Create s)
-    (asking_stands setup now Create [] s refl h.1.apart h.1.entered h.0, asking_entries setup now Create s h.1) (is_content setup now Create [] s refl h.0 h.1, tt)
+    (asking_stands setup now Create [] s refl h.1.apart h.1.entered h.0, asking_entries setup now Create s h.1, asking_sends setup now Create [] s) (is_content setup now Create [] s refl h.0 h.1, tt)
 
 attached_at : (b : Bool) (m : List Move) (s : Session) → Both m s → With Both (cond b m [] ++ []) (cond b (Some s) None)
 attached_at true m s h = subst (λ l. Both l s) (sym (append-nil m)) h
@@ -109,6 +132,10 @@ attached setup now number (Change session trigger moment) = refl
 attached setup now number (Tick moment) = refl
 attached setup now number (Detach session abnormal moment) = refl
 attached setup now number (Answered session place reply) = refl
+attached setup now number (Attempt session peer) = refl
+attached setup now number (NotSent session) = refl
+attached setup now number (NoReply session) = refl
+attached setup now number Restart = refl
 
 contents_kept : (setup : SmfSetup) → IsKept setup Both moves_of
 contents_kept setup = record {

@@ -16,12 +16,14 @@ use Rattle.units.specs.declared.reply.Reply.TheVariants.{Created, Updated, Relea
 use Rattle.meter.specs.Joining.{extended}
 use Rattle.meter.specs.Admission.{is_too_large}
 use Rattle.sessions.specs.Kept.{is_success, is_release, uses}
-use Rattle.sessions.specs.Trace.{Move, requests, settled, is_released, phase, closed_as, given_up}
+use Rattle.sessions.specs.Trace.{Move, Cause, Admits, requests, settled, is_released, phase, closed_as, given_up}
 use Rattle.sessions.specs.Trace.Move.{Answers}
+use Rattle.sessions.specs.Trace.Cause.{WasRefused as CausedByRefusal}
+use Rattle.sessions.specs.Content.{content}
 use Rattle.sessions.specs.Trace.Phase.{Idle, Asked, Released as ReleasedPhase, Refused as RefusedPhase}
 use Rattle.smf_model.specs.declared.session.Life.{Life}
 use Rattle.smf_model.specs.declared.session.Life.TheVariants.{Live, Ending, Aborting, Ended}
-use Rattle.smf_model.specs.declared.session.Why.TheVariants.{Refused as WasRefused}
+use Rattle.smf_model.specs.declared.session.Why.{Why}
 use Rattle.smf_model.specs.declared.session.Place.{Place}
 use Rattle.smf_model.specs.declared.session.Place.TheVariants.{Open, Waiting, Frozen, Answered as AnsweredPlace, GivenUp}
 use Rattle.smf_model.specs.declared.session.Holding.{Holding}
@@ -34,14 +36,15 @@ use Rattle.smf_model.specs.declared.refusal.SmfRefusal.TheVariants.{GateClosed, 
 use Rattle.quotas.specs.declared.state.Gate.TheVariants.{Closed as ClosedGate}
 use Rattle.smf_model.specs.Settle.{is_open, is_waiting, is_frozen, is_open_of, open_of, entry_of, close}
 use Rattle.smf_model.specs.Traffic.{horizon_in, closes_before, close_of, extend_of, first_of, joined, counted, close_any, detached, give_up}
+use Rattle.smf_model.specs.Sending.{unmarked, latest_peer, with_peer}
 use Rattle.smf_model.specs.Replies.{is_final_for, is_answer_to, answer_holding, replied, answered_by}
 use Rattle.smf_model.specs.Machine.{is_live, is_ended, gate_in, gate_for, is_passing, expected_of, count_answer, reply_answer}
 use Rattle.smf_model.specs.Trace.{closes_of, closes_all, ending_moves, reply_moves, unanswered}
-use Rattle.smf_model.specs.Places.{place_by, place_of, closed_holding, AreInOrder}
+use Rattle.smf_model.specs.Places.{why_of, place_by, place_of, closed_holding, AreInOrder}
 use Rattle.smf_model.specs.Apart.{is_lost}
 use Rattle.smf_model.proofs.TraceLaws.{newest_is, IsNewest, unclosed_kept}
 use Rattle.smf_model.proofs.Placed.{IsAt, unclosed_by, order_map, all_map, closed_with}
-use Rattle.smf_model.proofs.Frozen.{answered_at, given_at}
+use Rattle.smf_model.proofs.Frozen.{answered_at, given_at, IsGivingUp, refusal_gives}
 use Rattle.smf_model.proofs.Held.{Stands, length_map, same_stands, closed_stands, same_map, when, close_when, any_stands}
 
 -- what an answer New says
@@ -255,7 +258,7 @@ answered_with p t s u good asked holdings count request open_it h = record {
   each = subst (λ hs. AllByRecursion (IsAt (Answers p ∷ t)) hs) (sym holdings) (all_map (IsAt t) (IsAt (Answers p ∷ t)) answer_holding s.holdings (answered_at p t good) h.each);
   beyond = λ lsn l. h.beyond lsn (let e : length u.holdings ≡ length s.holdings = ap length holdings ∙ length_map answer_holding s.holdings in omega (arith, l, e));
   count = count ∙ h.count;
-  unanswered = request;
+  unanswered = ap unmarked request;
   asked = λ e. absurd (let f : true ≡ false = sym e ∙ ap is_some request in cc);
   idle = λ e on. ap (λ b. cond b (cond (is_released (requests t)) ReleasedPhase Idle) RefusedPhase) good ∙ ap (λ b. cond b ReleasedPhase Idle) (open_it on);
 }
@@ -302,35 +305,36 @@ pub shut_all : (m : ℕ) (x : TriggerType) (hs : List Holding) → AllByRecursio
 shut_all m x [] = tt
 shut_all m x (h ∷ hs) = (shut_one m x h, shut_all m x hs)
 
-given_all : (p : Reply) (t : List Move) → is_success p ≡ false → (hs : List Holding) → AllByRecursion (λ h. is_open h.place ≡ false) hs → AllByRecursion (IsAt t) hs → AllByRecursion (IsAt (Answers p ∷ t)) (map (give_up WasRefused) hs)
-given_all p t bad [] shut a = tt
-given_all p t bad (h ∷ hs) shut a = (given_at p t bad h shut.0 a.0, given_all p t bad hs shut.1 a.1)
+given_all : (cause : Cause) (t u : List Move) → IsGivingUp cause t u → (hs : List Holding) → AllByRecursion (λ h. is_open h.place ≡ false) hs → AllByRecursion (IsAt t) hs → AllByRecursion (IsAt u) (map (give_up (why_of cause)) hs)
+given_all cause t u gives [] shut a = tt
+given_all cause t u gives (h ∷ hs) shut a = (given_at cause t u gives h shut.0 a.0, given_all cause t u gives hs shut.1 a.1)
 
-give_lsn : (h : Holding) → (give_up WasRefused h).container.lsn ≡ h.container.lsn
-give_lsn h = at (is_waiting h.place || is_frozen h.place)
+give_lsn : (why : Why) (h : Holding) → (give_up why h).container.lsn ≡ h.container.lsn
+give_lsn why h = at (is_waiting h.place || is_frozen h.place)
   where
-    at : (b : Bool) → (cond b (record h { place = GivenUp WasRefused }) h).container.lsn ≡ h.container.lsn
+    at : (b : Bool) → (cond b (record h { place = GivenUp why }) h).container.lsn ≡ h.container.lsn
     at true = refl
     at false = refl
 
-refused_with : (p : Reply) (t : List Move) (s u : Session) → is_success p ≡ false → phase t ≡ Asked → AllByRecursion (λ h. is_open h.place ≡ false) s.holdings → u.holdings ≡ map (give_up WasRefused) s.holdings → u.count ≡ s.count → u.request ≡ None
-    → is_ended u.life ≡ true → Stands t s → Stands (Answers p ∷ t) u
-refused_with p t s u bad asked shut holdings count request over h = record {
-  valid = (asked, h.valid);
-  numbered = subst (AreInOrder 1) (sym holdings) (order_map (give_up WasRefused) 1 s.holdings give_lsn h.numbered);
-  each = subst (λ hs. AllByRecursion (IsAt (Answers p ∷ t)) hs) (sym holdings) (given_all p t bad s.holdings shut h.each);
-  beyond = λ lsn l. h.beyond lsn (let e : length u.holdings ≡ length s.holdings = ap length holdings ∙ length_map (give_up WasRefused) s.holdings in omega (arith, l, e));
-  count = count ∙ h.count;
-  unanswered = request;
+-- a session that is over, with what it held given up
+pub given_stands : (cause : Cause) (move : Move) (t : List Move) (s u : Session) → IsGivingUp cause t (move ∷ t) → Admits t move → unanswered (move ∷ t) ≡ None
+    → AllByRecursion (λ h. is_open h.place ≡ false) s.holdings → u.holdings ≡ map (give_up (why_of cause)) s.holdings → u.count ≡ s.count → u.request ≡ None → is_ended u.life ≡ true → Stands t s → Stands (move ∷ t) u
+given_stands cause move t s u gives admits none shut holdings count request over h = record {
+  valid = (admits, h.valid);
+  numbered = subst (AreInOrder 1) (sym holdings) (order_map (give_up (why_of cause)) 1 s.holdings (give_lsn (why_of cause)) h.numbered);
+  each = subst (λ hs. AllByRecursion (IsAt (move ∷ t)) hs) (sym holdings) (given_all cause t (move ∷ t) gives s.holdings shut h.each);
+  beyond = λ lsn l. gives.same_closed lsn ∙ h.beyond lsn (let e : length u.holdings ≡ length s.holdings = ap length holdings ∙ length_map (give_up (why_of cause)) s.holdings in omega (arith, l, e));
+  count = count ∙ h.count ∙ ap length (sym gives.same_requests);
+  unanswered = ap unmarked request ∙ sym none;
   asked = λ e. absurd (let f : true ≡ false = sym e ∙ ap is_some request in cc);
   idle = λ e on. absurd (let f : true ≡ false = sym over ∙ on in cc);
 }
 
 replied_stands : (now number : ℕ) (p : Reply) (q : Request) (t : List Move) (s : Session) → s.request ≡ Some q → is_final_for q.operation p number ≡ true → Stands t s → Stands (Answers p ∷ (ending_moves now p s ++ t)) (replied now q.stamp p s)
 replied_stands now number (Created reference answer) q t s is final h =
-    answered_with (Created reference answer) t s (replied now q.stamp (Created reference answer) s) refl (h.asked (ap is_some is)) refl refl refl (λ on. none_released t q (Created reference answer) number tt final (sym h.unanswered ∙ is)) h
+    answered_with (Created reference answer) t s (replied now q.stamp (Created reference answer) s) refl (h.asked (ap is_some is)) refl refl refl (λ on. none_released t (content q) (Created reference answer) number tt final (sym h.unanswered ∙ ap unmarked is)) h
 replied_stands now number (Updated answer) q t s is final h =
-    answered_with (Updated answer) t s (replied now q.stamp (Updated answer) s) refl (h.asked (ap is_some is)) refl refl refl (λ on. none_released t q (Updated answer) number tt final (sym h.unanswered ∙ is)) h
+    answered_with (Updated answer) t s (replied now q.stamp (Updated answer) s) refl (h.asked (ap is_some is)) refl refl refl (λ on. none_released t (content q) (Updated answer) number tt final (sym h.unanswered ∙ ap unmarked is)) h
 replied_stands now number Released q t s is final h =
     let shut : Session = record s { holdings = map (close_any now AbnormalRelease) s.holdings } in
     let k : Stands (closes_all now AbnormalRelease s ++ t) shut = any_stands now AbnormalRelease t s shut refl refl refl (λ e. e) h in
@@ -338,11 +342,13 @@ replied_stands now number Released q t s is final h =
 replied_stands now number (Refused problem) q t s is final h =
     let shut : Session = record s { holdings = map (close_any now AbnormalRelease) s.holdings } in
     let k : Stands (closes_all now AbnormalRelease s ++ t) shut = any_stands now AbnormalRelease t s shut refl refl refl (λ e. e) h in
-    refused_with (Refused problem) (closes_all now AbnormalRelease s ++ t) shut (replied now q.stamp (Refused problem) s) refl (k.asked (ap is_some is)) (shut_all now AbnormalRelease s.holdings) refl refl refl refl k
+    given_stands CausedByRefusal (Answers (Refused problem)) (closes_all now AbnormalRelease s ++ t) shut (replied now q.stamp (Refused problem) s) (refusal_gives (Refused problem) (closes_all now AbnormalRelease s ++ t) refl) (k.asked (ap is_some is)) refl (shut_all now AbnormalRelease s.holdings) refl refl refl refl k
 
 answered_stands_by : (now number : ℕ) (p : Reply) (o : Option Request) (t : List Move) (s : Session) → s.request ≡ o → is_answer_to number p o ≡ true → Stands t s → Stands (reply_moves now p o s ++ t) (answered_by now p o s)
 answered_stands_by now number p None t s is new h = h
-answered_stands_by now number p (Some q) t s is new h = replied_stands now number p q t s is (and_parts (q.number == number) (is_final_for q.operation p number) new).1 h
+answered_stands_by now number p (Some q) t s is new h =
+    same_stands (reply_moves now p (Some q) s ++ t) (replied now q.stamp p s) (with_peer (latest_peer s) (replied now q.stamp p s)) refl refl refl (λ e. e)
+    (replied_stands now number p q t s is (and_parts (q.number == number) (is_final_for q.operation p number) new).1 h)
 
 pub is_open_session : (number : ℕ) (p : Reply) (s : Session) → reply_answer number p s ≡ Ok New → is_ended s.life ≡ false
 is_open_session number p s new =

@@ -1,4 +1,11 @@
 -- A session that is over holds nothing, for every list of events.
+use Rattle.smf_model.proofs.Losing.{KeptByLoss, lost_kept}
+use Rattle.smf_model.specs.Rounds.{lost}
+use Rattle.smf_model.specs.Sending.{marked, attempted}
+use Rattle.smf_model.specs.declared.session.Why.{Why}
+use Rattle.smf_model.specs.declared.session.Peer.{Peer}
+use Rattle.smf_model.specs.declared.session.Loss.TheVariants.{Unsent, Unanswered}
+use Rattle.smf_model.specs.declared.session.Loss.{Loss}
 use Rattle.std.proofs.Common.{◌≡◌, ◌⊎◌, inl, inr, ℕ, ◌+◌, ◌-◌, ◌≤◌, ◌==◌, ◌&&◌, ◌||◌, nat_lt, Bool, true, false, cond, List, [], ◌∷◌, ◌++◌, map, refl, sym, ◌∙◌, ap, subst, arith, append-nil}
 use Rattle.std.specs.Prelude.{Option, Some, None, is_some}
 use Rattle.std.specs.List.{AllByRecursion}
@@ -18,16 +25,16 @@ use Rattle.sessions.specs.Trace.Phase.{Idle, Asked, Released as ReleasedPhase}
 use Rattle.smf_model.specs.declared.setup.SmfSetup.{SmfSetup}
 use Rattle.smf_model.specs.declared.session.Life.{Life}
 use Rattle.smf_model.specs.declared.session.Life.TheVariants.{Live, Ending, Aborting, Ended}
-use Rattle.smf_model.specs.declared.session.Why.TheVariants.{HeldFull, Refused as WasRefused}
+use Rattle.smf_model.specs.declared.session.Why.TheVariants.{HeldFull, Refused as WasRefused, NotSent as WasNotSent}
 use Rattle.smf_model.specs.declared.session.Place.{Place}
 use Rattle.smf_model.specs.declared.session.Place.TheVariants.{Open, Waiting, Frozen, Answered as AnsweredPlace, GivenUp}
 use Rattle.smf_model.specs.declared.session.Holding.{Holding}
 use Rattle.smf_model.specs.declared.session.Session.{Session}
 use Rattle.smf_model.specs.declared.event.SmfEvent.{SmfEvent}
-use Rattle.smf_model.specs.declared.event.SmfEvent.TheVariants.{Attach, Start, Count, Change, Tick, Detach, Answered}
+use Rattle.smf_model.specs.declared.event.SmfEvent.TheVariants.{Attach, Start, Count, Change, Tick, Detach, Answered, Attempt, NotSent, NoReply, Restart}
 use Rattle.smf_model.specs.Settle.{is_open, is_waiting, is_frozen, entry_of, close, close_due, due_at, settled}
 use Rattle.smf_model.specs.Freeze.{waiting_count, move_oldest, live_operation, ending_operation, operation_in, next_operation, request_of, freeze_due, freeze_by, with_request}
-use Rattle.smf_model.specs.Traffic.{close_any, detached, give_up}
+use Rattle.smf_model.specs.Traffic.{close_any, detached, give_up, without_traffic, ended_for}
 use Rattle.smf_model.specs.Replies.{is_final_for, is_answer_to, answer_holding, replied, answered_by}
 use Rattle.smf_model.specs.Machine.{is_live, is_ended, machine_after, session_of, touches, effect, finished, fresh, added_by}
 use Rattle.smf_model.specs.Trace.{trace, moves_of, added_moves}
@@ -207,17 +214,17 @@ released_all : (now : ℕ) (hs : List Holding) → NoneAt is_open hs → NoneAt 
 released_all now [] o w = tt
 released_all now (h ∷ hs) o w = (released_one now h o.0 w.0, released_all now hs o.1 w.1)
 
-given_one : (h : Holding) → is_open h.place ≡ false → is_held (give_up WasRefused h).place ≡ false
-given_one h o = at (is_waiting h.place) (is_frozen h.place) refl refl
+given_one : (why : Why) (h : Holding) → is_open h.place ≡ false → is_held (give_up why h).place ≡ false
+given_one why h o = at (is_waiting h.place) (is_frozen h.place) refl refl
   where
-    at : (w f : Bool) → is_waiting h.place ≡ w → is_frozen h.place ≡ f → is_held (cond (w || f) (record h { place = GivenUp WasRefused }) h).place ≡ false
+    at : (w f : Bool) → is_waiting h.place ≡ w → is_frozen h.place ≡ f → is_held (cond (w || f) (record h { place = GivenUp why }) h).place ≡ false
     at true f ew ef = refl
     at false true ew ef = refl
     at false false ew ef = not_held h.place o ew ef
 
-given_all : (hs : List Holding) → NoneAt is_open hs → NoneAt is_held (map (give_up WasRefused) hs)
-given_all [] a = tt
-given_all (h ∷ hs) a = (given_one h a.0, given_all hs a.1)
+given_all : (why : Why) (hs : List Holding) → NoneAt is_open hs → NoneAt is_held (map (give_up why) hs)
+given_all why [] a = tt
+given_all why (h ∷ hs) a = (given_one why h a.0, given_all why hs a.1)
 
 over_shut : (v : Session) → v.request ≡ None → NoneAt is_held v.holdings → IsShut v
 over_shut v request none = record {
@@ -238,11 +245,13 @@ replied_shut now place Released q s on is final h =
     let old = h.released q is (release_only q.operation place final) in
     over_shut (replied now q.stamp Released s) refl (released_all now s.holdings (h.shut old.0) old.1)
 replied_shut now place (Refused problem) q s on is final h =
-    over_shut (replied now q.stamp (Refused problem) s) refl (given_all (map (close_any now AbnormalRelease) s.holdings) (shut_all now AbnormalRelease s.holdings))
+    over_shut (replied now q.stamp (Refused problem) s) refl (given_all WasRefused (map (close_any now AbnormalRelease) s.holdings) (shut_all now AbnormalRelease s.holdings))
 
 answered_shut : (now place : ℕ) (p : Reply) (o : Option Request) (s : Session) → is_ended s.life ≡ false → s.request ≡ o → is_answer_to place p o ≡ true → IsShut s → IsShut (answered_by now p o s)
 answered_shut now place p None s on is final h = h
-answered_shut now place p (Some q) s on is final h = replied_shut now place p q s on is (and_parts (q.number == place) (is_final_for q.operation p place) final).1 h
+answered_shut now place p (Some q) s on is final h =
+    let k = replied_shut now place p q s on is (and_parts (q.number == place) (is_final_for q.operation p place) final).1 h in
+    record { shut = k.shut; released = k.released; over = k.over }
 
 -- events
 
@@ -257,18 +266,44 @@ detached_shut : (abnormal : Bool) (moment : ℕ) (s : Session) → is_live s.lif
 detached_shut true moment s live h = detached_with AbnormalRelease moment s (detached true moment s) live refl refl refl h
 detached_shut false moment s live h = detached_with Final moment s (detached false moment s) live refl refl refl h
 
-effect_shut : (event : SmfEvent) (now : ℕ) (s : Session) → touches event s ≡ true → IsNew event s → IsShut s → IsShut (effect now event s)
-effect_shut (Attach session subscriber groups moment) now s on new h = h
-effect_shut (Start session group moment) now s on new h = quiet_shut s (effect now (Start session group moment) s) refl refl (λ none. refl) h
-effect_shut (Count session r) now s on new h = live_shut s (effect now (Count session r) s) (is_counted r s (new on)).live refl refl h
-effect_shut (Change session trigger moment) now s on new h =
-    quiet_shut s (effect now (Change session trigger moment) s) refl refl (unopened (close_any moment trigger) s.holdings (λ k e. close_same moment trigger k e)) h
-effect_shut (Tick moment) now s on new h = h
-effect_shut (Detach session abnormal moment) now s on new h = detached_shut abnormal moment s (and_parts (s.number == session) (is_live s.life) on).1 h
-effect_shut (Answered session place reply) now s on new h = answered_shut now place reply s.request s (is_open_session place reply s (new on)) refl (is_final_answer place reply s (new on)) h
+-- an attempt, and its end
+attempted_shut : (peer : Peer) (s : Session) → IsShut s → IsShut (attempted peer s)
+attempted_shut peer s h = record { shut = h.shut; released = λ q is r. at s.request refl q is r; over = h.over }
+  where
+    at : (o : Option Request) → s.request ≡ o → (q : Request) → marked o ≡ Some q → is_release q.operation ≡ true → (is_live s.life ≡ false) × NoneAt is_waiting s.holdings
+    at None e q is r = cc
+    at (Some p) e q is r = h.released p e (ap is_release (same_operation p q is) ∙ r)
+      where
+        same_operation : (p q : Request) → Some (record p { again = true }) ≡ Some q → p.operation ≡ q.operation
+        same_operation p q is = let f : record p { again = true } ≡ q = cc in ap (λ (x : Request). x.operation) f
 
-next_by : (b : Bool) (event : SmfEvent) (setup : SmfSetup) (now : ℕ) (s : Session) → touches event s ≡ b → IsNew event s → IsShut s → IsShut (cond b (finished setup now (effect now event s)) s)
-next_by true event setup now s on new h = finished_shut setup now (effect now event s) (effect_shut event now s on new h)
+shut_by_loss : KeptByLoss (λ t s. IsShut s) (λ o. Unit {0})
+shut_by_loss = record {
+  sends = λ x t s flies unsent h. record { shut = h.shut; released = h.released; over = h.over };
+  continues = λ t s h. record { shut = h.shut; released = h.released; over = h.over };
+  breaks = λ now t s live h. detached_with AbnormalRelease now s (without_traffic Aborting now AbnormalRelease s) live refl refl refl h;
+  gives_up = λ now t s landed unsent asked h. over_shut (ended_for WasNotSent now s) refl (given_all WasNotSent (map (close_any now AbnormalRelease) s.holdings) (shut_all now AbnormalRelease s.holdings));
+}
+
+lost_shut : (setup : SmfSetup) (now : ℕ) (loss : Loss) (s : Session) → IsShut s → IsShut (lost setup now loss s)
+lost_shut setup now loss s h = lost_kept (λ t u. IsShut u) (λ o. Unit {0}) shut_by_loss setup now loss [] s tt (record { shut = h.shut; released = h.released; over = h.over })
+
+effect_shut : (event : SmfEvent) (setup : SmfSetup) (now : ℕ) (s : Session) → touches event s ≡ true → IsNew event s → IsShut s → IsShut (effect setup now event s)
+effect_shut (Attach session subscriber groups moment) setup now s on new h = h
+effect_shut (Start session group moment) setup now s on new h = quiet_shut s (effect setup now (Start session group moment) s) refl refl (λ none. refl) h
+effect_shut (Count session r) setup now s on new h = live_shut s (effect setup now (Count session r) s) (is_counted r s (new on)).live refl refl h
+effect_shut (Change session trigger moment) setup now s on new h =
+    quiet_shut s (effect setup now (Change session trigger moment) s) refl refl (unopened (close_any moment trigger) s.holdings (λ k e. close_same moment trigger k e)) h
+effect_shut (Tick moment) setup now s on new h = h
+effect_shut (Detach session abnormal moment) setup now s on new h = detached_shut abnormal moment s (and_parts (s.number == session) (is_live s.life) on).1 h
+effect_shut (Answered session place reply) setup now s on new h = answered_shut now place reply s.request s (is_open_session place reply s (new on)) refl (is_final_answer place reply s (new on)) h
+effect_shut (Attempt session peer) setup now s on new h = attempted_shut peer s h
+effect_shut (NotSent session) setup now s on new h = lost_shut setup now Unsent s h
+effect_shut (NoReply session) setup now s on new h = lost_shut setup now Unanswered s h
+effect_shut Restart setup now s on new h = lost_shut setup now Unanswered s h
+
+next_by : (b : Bool) (event : SmfEvent) (setup : SmfSetup) (now : ℕ) (s : Session) → touches event s ≡ b → IsNew event s → IsShut s → IsShut (cond b (finished setup now (effect setup now event s)) s)
+next_by true event setup now s on new h = finished_shut setup now (effect setup now event s) (effect_shut event setup now s on new h)
 next_by false event setup now s on new h = h
 
 created_shut : (setup : SmfSetup) (now number : ℕ) (subscriber groups : List ℕ) (moment : ℕ) → IsShut (finished setup now (with_request setup now Create (fresh setup number subscriber groups moment)))
@@ -299,6 +334,10 @@ attached setup now number (Change session trigger moment) = refl
 attached setup now number (Tick moment) = refl
 attached setup now number (Detach session abnormal moment) = refl
 attached setup now number (Answered session place reply) = refl
+attached setup now number (Attempt session peer) = refl
+attached setup now number (NotSent session) = refl
+attached setup now number (NoReply session) = refl
+attached setup now number Restart = refl
 
 shut_kept : (setup : SmfSetup) → IsKept setup Both moves_of
 shut_kept setup = record {

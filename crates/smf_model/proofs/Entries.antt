@@ -14,7 +14,10 @@ use Rattle.meter.specs.Joining.{extended}
 use Rattle.smf_model.specs.declared.setup.SmfSetup.{SmfSetup}
 use Rattle.smf_model.specs.declared.session.Life.{Life}
 use Rattle.smf_model.specs.declared.session.Life.TheVariants.{Ending, Aborting, Ended}
-use Rattle.smf_model.specs.declared.session.Why.TheVariants.{HeldFull, Refused as WasRefused}
+use Rattle.smf_model.specs.declared.session.Why.{Why}
+use Rattle.smf_model.specs.declared.session.Why.TheVariants.{NotSent as WasNotSent, HeldFull, Refused as WasRefused}
+use Rattle.smf_model.specs.declared.session.Loss.{Loss}
+use Rattle.smf_model.specs.declared.session.Peer.{Peer}
 use Rattle.smf_model.specs.declared.session.Place.{Place}
 use Rattle.smf_model.specs.declared.session.Place.TheVariants.{Frozen, Answered as AnsweredPlace, GivenUp}
 use Rattle.smf_model.specs.declared.session.Holding.{Holding}
@@ -22,9 +25,12 @@ use Rattle.smf_model.specs.declared.session.Entry.{Entry}
 use Rattle.smf_model.specs.declared.session.Session.{Session}
 use Rattle.smf_model.specs.Settle.{is_open, is_waiting, is_frozen, is_open_of, entry_of, close, close_due, due_at, due_in, fire, settled}
 use Rattle.smf_model.specs.Freeze.{waiting_count, move_oldest, next_operation, freeze_due, freeze_by, freeze_entry, with_request}
-use Rattle.smf_model.specs.Traffic.{close_of, extend_of, first_of, count_entry, counted_by, or_new, asked_entry, with_asked, close_any, without_traffic, detached, ended, give_up}
+use Rattle.smf_model.specs.Traffic.{close_of, extend_of, first_of, count_entry, counted_by, or_new, asked_entry, with_asked, close_any, without_traffic, detached, ended, give_up, ended_for}
+use Rattle.smf_model.specs.Sending.{attempted, latest_peer, with_peer}
+use Rattle.smf_model.specs.Rounds.{with_loss, continue_entry, lost}
 use Rattle.smf_model.specs.Replies.{answer_holding, answer_entry, replied, answered_by}
 use Rattle.smf_model.specs.Machine.{finished}
+use Rattle.smf_model.proofs.Losing.{KeptByLoss, lost_kept}
 use Rattle.smf_model.proofs.Counted.{one_if, entries_at, AreApart, AreEntered}
 
 pub record HasEntries (s : Session) : Type 0 where
@@ -120,11 +126,16 @@ traffic_entries l m x s h = same_entries s (without_traffic l m x s) (close_any 
 answer_group : (h : Holding) → (answer_holding h).container.group ≡ h.container.group
 answer_group h = pick_group (is_frozen h.place) (record h { place = AnsweredPlace }) h refl
 
-give_up_group : (h : Holding) → (give_up WasRefused h).container.group ≡ h.container.group
-give_up_group h = pick_group _ (record h { place = GivenUp WasRefused }) h refl
+give_up_group : (why : Why) (h : Holding) → (give_up why h).container.group ≡ h.container.group
+give_up_group why h = pick_group _ (record h { place = GivenUp why }) h refl
 
 again : (s u : Session) → u.groups ≡ s.groups → u.holdings ≡ s.holdings → HasEntries s → HasEntries u
 again s u groups holdings h = same_entries s u (λ x. x) groups (holdings ∙ map_self s.holdings) (λ x. refl) h
+
+over_entries : (why : Why) (now : ℕ) (s : Session) → HasEntries s → HasEntries (ended_for why now s)
+over_entries why now s h =
+    let u : Session = ended now s in
+    same_entries u (ended_for why now s) (give_up why) refl refl (give_up_group why) (again (without_traffic Ended now AbnormalRelease s) u refl refl (traffic_entries Ended now AbnormalRelease s h))
 
 replied_entries : (now stamp : ℕ) (p : Reply) (s : Session) → HasEntries s → HasEntries (replied now stamp p s)
 replied_entries now stamp (Created reference answer) s h = mapped_entries s (replied now stamp (Created reference answer) s) (answer_entry stamp answer.units) answer_holding refl refl (λ e. refl) answer_group h
@@ -133,12 +144,27 @@ replied_entries now stamp Released s h =
     let u : Session = record s { holdings = map answer_holding s.holdings } in
     again (without_traffic Ended now AbnormalRelease u) (replied now stamp Released s) refl refl (traffic_entries Ended now AbnormalRelease u (same_entries s u answer_holding refl refl answer_group h))
 replied_entries now stamp (Refused problem) s h =
-    let u : Session = ended now s in
-    same_entries u (replied now stamp (Refused problem) s) (give_up WasRefused) refl refl give_up_group (again (without_traffic Ended now AbnormalRelease s) u refl refl (traffic_entries Ended now AbnormalRelease s h))
+    over_entries WasRefused now s h
 
 pub answered_entries : (now : ℕ) (p : Reply) (q : Option Request) (s : Session) → HasEntries s → HasEntries (answered_by now p q s)
 answered_entries now p None s h = h
-answered_entries now p (Some q) s h = replied_entries now q.stamp p s h
+answered_entries now p (Some q) s h = again (replied now q.stamp p s) (with_peer (latest_peer s) (replied now q.stamp p s)) refl refl (replied_entries now q.stamp p s h)
+
+-- the end of an attempt
+
+entries_by_loss : KeptByLoss (λ t s. HasEntries s) (λ o. Unit {0})
+entries_by_loss = record {
+  sends = λ x t s flies unsent h. again s (record s { sending = x }) refl refl h;
+  continues = λ t s h. mapped_entries s (record s { groups = map continue_entry s.groups }) continue_entry (λ x. x) refl (map_self s.holdings) (λ e. refl) (λ x. refl) h;
+  breaks = λ now t s live h. traffic_entries Aborting now AbnormalRelease s h;
+  gives_up = λ now t s landed unsent asked h. over_entries WasNotSent now s h;
+}
+
+pub lost_entries : (setup : SmfSetup) (now : ℕ) (loss : Loss) (s : Session) → HasEntries s → HasEntries (lost setup now loss s)
+lost_entries setup now loss s h = lost_kept (λ t u. HasEntries u) (λ o. Unit {0}) entries_by_loss setup now loss [] s tt (again s (with_loss loss s) refl refl h)
+
+pub attempted_entries : (peer : Peer) (s : Session) → HasEntries s → HasEntries (attempted peer s)
+attempted_entries peer s h = again s (attempted peer s) refl refl h
 
 pub detached_entries : (abnormal : Bool) (moment : ℕ) (s : Session) → HasEntries s → HasEntries (detached abnormal moment s)
 detached_entries true moment s h = again (without_traffic Aborting moment AbnormalRelease s) (detached true moment s) refl refl (traffic_entries Aborting moment AbnormalRelease s h)

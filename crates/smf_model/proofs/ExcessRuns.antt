@@ -1,5 +1,10 @@
 -- What each event gives up as too much, for every list of events.
-use Rattle.std.proofs.Common.{◌≡◌, ◌⊎◌, inl, inr, ℕ, ◌-◌, ◌<◌, ◌≤◌, ◌==◌, Bool, true, false, cond, List, [], ◌∷◌, ◌++◌, refl, sym, ◌∙◌, ap, subst, arith, append_assoc}
+use Rattle.smf_model.proofs.Sends.{asking_sends}
+use Rattle.smf_model.proofs.Losing.{KeptByLoss, lost_kept}
+use Rattle.units.specs.declared.trigger.TriggerType.TheVariants.{AbnormalRelease}
+use Rattle.smf_model.specs.declared.session.Loss.TheVariants.{Unsent, Unanswered}
+use Rattle.smf_model.specs.declared.session.Loss.{Loss}
+use Rattle.std.proofs.Common.{◌≡◌, ◌⊎◌, inl, inr, ℕ, ◌-◌, ◌<◌, ◌≤◌, ◌==◌, Bool, true, false, cond, List, [], ◌∷◌, ◌++◌, refl, sym, ◌∙◌, ap, subst, arith, append_assoc, append-nil}
 use Rattle.std.specs.Prelude.{Option, Some, None, Result, Ok, Err}
 use Rattle.units.specs.declared.trigger.TriggerType.{TriggerType}
 use Rattle.units.specs.declared.request.Operation.{Operation}
@@ -15,14 +20,14 @@ use Rattle.smf_model.specs.declared.session.Holding.{Holding}
 use Rattle.smf_model.specs.declared.session.Session.{Session}
 use Rattle.smf_model.specs.declared.session.Machine.{Machine}
 use Rattle.smf_model.specs.declared.event.SmfEvent.{SmfEvent}
-use Rattle.smf_model.specs.declared.event.SmfEvent.TheVariants.{Attach, Start, Count, Change, Tick, Detach, Answered}
+use Rattle.smf_model.specs.declared.event.SmfEvent.TheVariants.{Attach, Start, Count, Change, Tick, Detach, Answered, Attempt, NotSent as CameUnsent, NoReply as CameNoReply, Restart}
 use Rattle.smf_model.specs.declared.refusal.Seen.{Seen}
 use Rattle.smf_model.specs.declared.refusal.Seen.TheVariants.{New, Known}
 use Rattle.smf_model.specs.declared.refusal.SmfRefusal.{SmfRefusal}
 use Rattle.smf_model.specs.Settle.{settled}
 use Rattle.smf_model.specs.Freeze.{waiting_count, next_operation, request_of, freeze_due, with_request}
 use Rattle.smf_model.specs.Machine.{machine_after, answer_of, now_after, session_of, touches, effect, fresh}
-use Rattle.smf_model.specs.Trace.{trace, close_moves, closes_of, settle_moves, freeze_moves, freeze_moves_by, drop_moves, finish_moves, reply_moves, effect_moves, added_moves, moves_of, moves_if}
+use Rattle.smf_model.specs.Trace.{trace, close_moves, closes_of, settle_moves, freeze_moves, freeze_moves_by, drop_moves, finish_moves, reply_moves, effect_moves, added_moves, moves_of, moves_if, closes_all, loss_move, lost_moves}
 use Rattle.smf_model.specs.Limits.{WaitsAtMost}
 use Rattle.smf_model.specs.Contents.{waiting_to}
 use Rattle.smf_model.specs.Excess.{waiting_between, GivesUpBeyond, DropsNone, EndsEvent}
@@ -65,14 +70,33 @@ reply_none now (Updated answer) (Some q) s = tt
 reply_none now Released (Some q) s = closes_none now _ s.holdings
 reply_none now (Refused problem) (Some q) s = closes_none now _ s.holdings
 
-effect_none : (event : SmfEvent) (now : ℕ) (s : Session) → DropsNone (effect_moves now event s)
-effect_none (Attach session subscriber groups moment) now s = tt
-effect_none (Start session group moment) now s = tt
-effect_none (Count session r) now s = closes_none r.moment _ s.holdings
-effect_none (Change session trigger moment) now s = closes_none moment _ s.holdings
-effect_none (Tick moment) now s = tt
-effect_none (Detach session abnormal moment) now s = closes_none moment _ s.holdings
-effect_none (Answered session number reply) now s = reply_none now reply s.request s
+none_by_loss : KeptByLoss (λ t s. DropsNone t) (λ o. Unit {0})
+none_by_loss = record {
+  sends = λ x t s flies unsent n. n;
+  continues = λ t s n. n;
+  breaks = λ now t s live n. none_more (closes_all now AbnormalRelease s) t (closes_none now _ s.holdings) n;
+  gives_up = λ now t s landed unsent asked n. none_more (closes_all now AbnormalRelease s) t (closes_none now _ s.holdings) n;
+}
+
+one_none : (loss : Loss) → DropsNone (loss_move loss ∷ [])
+one_none Unsent = tt
+one_none Unanswered = tt
+
+loss_none : (setup : SmfSetup) (now : ℕ) (loss : Loss) (s : Session) → DropsNone (lost_moves now loss s)
+loss_none setup now loss s = subst DropsNone (append-nil (lost_moves now loss s)) (lost_kept (λ t u. DropsNone t) (λ o. Unit {0}) none_by_loss setup now loss [] s tt (one_none loss))
+
+effect_none : (event : SmfEvent) (setup : SmfSetup) (now : ℕ) (s : Session) → DropsNone (effect_moves now event s)
+effect_none (Attach session subscriber groups moment) setup now s = tt
+effect_none (Start session group moment) setup now s = tt
+effect_none (Count session r) setup now s = closes_none r.moment _ s.holdings
+effect_none (Change session trigger moment) setup now s = closes_none moment _ s.holdings
+effect_none (Tick moment) setup now s = tt
+effect_none (Detach session abnormal moment) setup now s = closes_none moment _ s.holdings
+effect_none (Answered session number reply) setup now s = reply_none now reply s.request s
+effect_none (Attempt session peer) setup now s = tt
+effect_none (CameUnsent session) setup now s = loss_none setup now Unsent s
+effect_none (CameNoReply session) setup now s = loss_none setup now Unanswered s
+effect_none Restart setup now s = loss_none setup now Unanswered s
 
 -- the end of an event
 ended : (setup : SmfSetup) (now : ℕ) (e t : List Move) (s : Session) → StandsWhole (e ++ t) s → DropsNone e → EndsEvent setup.held_max t ((finish_moves setup now s ++ e) ++ t)
@@ -137,8 +161,8 @@ still most t o h few = record { moves = []; dropped = []; is = refl; drops_none 
 -- each event
 
 session_ended : (b : Bool) (event : SmfEvent) (setup : SmfSetup) (now : ℕ) (t : List Move) (s : Session) → touches event s ≡ b → IsNew event s → StandsWhole t s → waiting_count s.holdings ≤ setup.held_max
-    → EndsEvent setup.held_max t (cond b (finish_moves setup now (effect now event s) ++ effect_moves now event s) [] ++ t)
-session_ended true event setup now t s on new h few = ended setup now (effect_moves now event s) t (effect now event s) (effect_whole event now t s on new h) (effect_none event now s)
+    → EndsEvent setup.held_max t (cond b (finish_moves setup now (effect setup now event s) ++ effect_moves now event s) [] ++ t)
+session_ended true event setup now t s on new h few = ended setup now (effect_moves now event s) t (effect setup now event s) (effect_whole event setup now t s on new h) (effect_none event setup now s)
 session_ended false event setup now t s off new h few = still setup.held_max t (Some s) h few
 
 created_ended : (b : Bool) (setup : SmfSetup) (now number : ℕ) (subscriber groups : List ℕ) (moment : ℕ) (t : List Move) → t ≡ []
@@ -147,7 +171,7 @@ created_ended true setup now number subscriber groups moment t none =
     let s : Session = fresh setup number subscriber groups moment in
     let asked : List Move = Freezes (request_of setup now s Create) ∷ [] in
     let h : StandsWhole [] s = fresh_whole setup number subscriber groups moment in
-    let k : StandsWhole asked (with_request setup now Create s) = (asking_stands setup now Create [] s refl h.1.apart h.1.entered h.0, asking_entries setup now Create s h.1) in
+    let k : StandsWhole asked (with_request setup now Create s) = (asking_stands setup now Create [] s refl h.1.apart h.1.entered h.0, asking_entries setup now Create s h.1, asking_sends setup now Create [] s) in
     ended setup now asked t (with_request setup now Create s) (subst (λ l. StandsWhole (asked ++ l) (with_request setup now Create s)) (sym none) k) tt
 created_ended false setup now number subscriber groups moment t none = still setup.held_max t None none tt
 
@@ -159,6 +183,10 @@ added_ended (Change session trigger moment) setup now number t none = still setu
 added_ended (Tick moment) setup now number t none = still setup.held_max t None none tt
 added_ended (Detach session abnormal moment) setup now number t none = still setup.held_max t None none tt
 added_ended (Answered session place reply) setup now number t none = still setup.held_max t None none tt
+added_ended (Attempt session peer) setup now number t none = still setup.held_max t None none tt
+added_ended (CameUnsent session) setup now number t none = still setup.held_max t None none tt
+added_ended (CameNoReply session) setup now number t none = still setup.held_max t None none tt
+added_ended Restart setup now number t none = still setup.held_max t None none tt
 
 found_ended : (o : Option Session) (event : SmfEvent) (setup : SmfSetup) (now number : ℕ) (t : List Move) → ((s : Session) → o ≡ Some s → IsNew event s) → With StandsWhole t o → WaitsAtMost setup.held_max o
     → EndsEvent setup.held_max t (moves_of setup now number event o ++ t)

@@ -8,10 +8,9 @@ use Rattle.units.specs.declared.request.Request.{Request}
 use Rattle.units.specs.declared.reply.Reply.{Reply}
 use Rattle.sessions.specs.Kept.{is_success, uses, occurs_in}
 use Rattle.sessions.specs.Trace.{Move, Cause, requests, settled, phase, closed_as, or_cause, given_up, IsWaiting, IsTrace}
-use Rattle.sessions.specs.Trace.Move.{Freezes, Answers}
+use Rattle.sessions.specs.Trace.Move.{Freezes, GivesUp, Answers}
 use Rattle.sessions.specs.Trace.Phase.{Idle}
-use Rattle.sessions.specs.Trace.Cause.{WasRefused}
-use Rattle.smf_model.specs.declared.session.Why.TheVariants.{Refused}
+use Rattle.sessions.specs.Trace.Cause.{WasNotSent, WasRefused}
 use Rattle.smf_model.specs.declared.session.Place.{Place}
 use Rattle.smf_model.specs.declared.session.Place.TheVariants.{Open, Waiting, Frozen, Answered, GivenUp}
 use Rattle.smf_model.specs.declared.session.Holding.{Holding}
@@ -20,7 +19,7 @@ use Rattle.smf_model.specs.Settle.{is_open, is_waiting, is_frozen}
 use Rattle.smf_model.specs.Freeze.{move_oldest, usages}
 use Rattle.smf_model.specs.Replies.{answer_holding}
 use Rattle.smf_model.specs.Traffic.{give_up}
-use Rattle.smf_model.specs.Places.{place_by, place_of, closed_holding, AreInOrder}
+use Rattle.smf_model.specs.Places.{why_of, place_by, place_of, closed_holding, AreInOrder}
 use Rattle.smf_model.proofs.TraceLaws.{uses_settled, all_answered, newest_by}
 use Rattle.smf_model.proofs.Counted.{standing, occurs_standing, standing_is, AreApart, stands_once, AreEntered, StandsIf, stands_if}
 use Rattle.smf_model.proofs.Placed.{IsAt, placed_by, is_waiting_by, order_moved, AreLeft}
@@ -162,22 +161,29 @@ answered_at p t good h a = at (is_frozen h.place) refl
     at true e = record { place = sym (ap (λ b. cond b Answered h.place) e) ∙ place; closed = a.closed; untouched = λ n. given ∙ a.untouched n }
     at false e = record { place = sym (ap (λ b. cond b Answered h.place) e) ∙ place; closed = a.closed; untouched = λ n. given ∙ a.untouched n }
 
--- a refusal: what waits or is frozen is given up
+-- the session is over: what waits or is frozen is given up
 
-refused_place : (c : Option Closed) (g : Option Cause) (x y : Bool) → (x ≡ true → y ≡ true)
-    → cond (is_waiting (place_by c g x y) || is_frozen (place_by c g x y)) (GivenUp Refused) (place_by c g x y) ≡ place_by c (or_cause g y WasRefused) x y
-refused_place None g x y h = refl
-refused_place (Some c) (Some g) x y h = refl
-refused_place (Some c) None true true h = refl
-refused_place (Some c) None true false h = absurd (let f : false ≡ true = h refl in cc)
-refused_place (Some c) None false true h = refl
-refused_place (Some c) None false false h = refl
+given_place : (cause : Cause) (c : Option Closed) (g : Option Cause) (x y : Bool) → (x ≡ true → y ≡ true)
+    → cond (is_waiting (place_by c g x y) || is_frozen (place_by c g x y)) (GivenUp (why_of cause)) (place_by c g x y) ≡ place_by c (or_cause g y cause) x y
+given_place cause None g x y h = refl
+given_place cause (Some c) (Some g) x y h = refl
+given_place cause (Some c) None true true h = refl
+given_place cause (Some c) None true false h = absurd (let f : false ≡ true = h refl in cc)
+given_place cause (Some c) None false true h = refl
+given_place cause (Some c) None false false h = refl
 
 is_closed_open : (c : Option Closed) (g : Option Cause) (x y : Bool) → c ≡ None → is_open (place_by c g x y) ≡ true
 is_closed_open c g x y e = ap (λ o. is_open (place_by o g x y)) e
 
-pub given_at : (p : Reply) (t : List Move) → is_success p ≡ false → (h : Holding) → is_open h.place ≡ false → IsAt t h → IsAt (Answers p ∷ t) (give_up Refused h)
-given_at p t bad h shut a = at (is_waiting h.place || is_frozen h.place) refl
+-- a move that gives up what is in no answered request
+pub record IsGivingUp (cause : Cause) (t u : List Move) : Type 0 where
+  pub same_closed : (lsn : ℕ) → closed_as u lsn ≡ closed_as t lsn
+  pub same_requests : requests u ≡ requests t
+  pub same_settled : settled u ≡ settled t
+  pub given : (lsn : ℕ) → given_up u lsn ≡ or_cause (given_up t lsn) (uses lsn (settled t) == 0) cause
+
+pub given_at : (cause : Cause) (t u : List Move) → IsGivingUp cause t u → (h : Holding) → is_open h.place ≡ false → IsAt t h → IsAt u (give_up (why_of cause) h)
+given_at cause t u gives h shut a = at (is_waiting h.place || is_frozen h.place) refl
   where
     k : ℕ
     k = h.container.lsn
@@ -185,15 +191,30 @@ given_at p t bad h shut a = at (is_waiting h.place || is_frozen h.place) refl
     unused : (uses k (requests t) == 0) ≡ true → (uses k (settled t) == 0) ≡ true
     unused e = eq-eqb _ 0 (let l = uses_settled t k in let z = eqb-true (uses k (requests t)) 0 e in omega (arith, l, z))
 
-    place : cond (is_waiting h.place || is_frozen h.place) (GivenUp Refused) h.place ≡ place_of (Answers p ∷ t) k
+    place : cond (is_waiting h.place || is_frozen h.place) (GivenUp (why_of cause)) h.place ≡ place_of u k
     place =
-        ap (λ x. cond (is_waiting x || is_frozen x) (GivenUp Refused) x) a.place
-        ∙ refused_place (closed_as t k) (given_up t k) (uses k (requests t) == 0) (uses k (settled t) == 0) unused
-        ∙ ap (λ b. place_by (closed_as t k) (cond b (given_up t k) (or_cause (given_up t k) (uses k (settled t) == 0) WasRefused)) (uses k (requests t) == 0) (uses k (cond b (requests t) (settled t)) == 0)) (sym bad)
+        ap (λ x. cond (is_waiting x || is_frozen x) (GivenUp (why_of cause)) x) a.place
+        ∙ given_place cause (closed_as t k) (given_up t k) (uses k (requests t) == 0) (uses k (settled t) == 0) unused
+        ∙ ap (λ g. place_by (closed_as t k) g (uses k (requests t) == 0) (uses k (settled t) == 0)) (sym (gives.given k))
+        ∙ ap (λ c. place_by c (given_up u k) (uses k (requests t) == 0) (uses k (settled t) == 0)) (sym (gives.same_closed k))
+        ∙ ap (λ r. place_by (closed_as u k) (given_up u k) (uses k r == 0) (uses k (settled t) == 0)) (sym gives.same_requests)
+        ∙ ap (λ r. place_by (closed_as u k) (given_up u k) (uses k (requests u) == 0) (uses k r == 0)) (sym gives.same_settled)
 
-    never : {A : Type 0} → closed_as t k ≡ None → A
-    never e = absurd (let f : true ≡ false = sym (is_closed_open (closed_as t k) (given_up t k) (uses k (requests t) == 0) (uses k (settled t) == 0) e) ∙ ap is_open (sym a.place) ∙ shut in cc)
+    never : {A : Type 0} → closed_as u k ≡ None → A
+    never e = absurd (let f : true ≡ false = sym (is_closed_open (closed_as t k) (given_up t k) (uses k (requests t) == 0) (uses k (settled t) == 0) (sym (gives.same_closed k) ∙ e)) ∙ ap is_open (sym a.place) ∙ shut in cc)
 
-    at : (b : Bool) → (is_waiting h.place || is_frozen h.place) ≡ b → IsAt (Answers p ∷ t) (cond b (record h { place = GivenUp Refused }) h)
-    at true e = record { place = sym (ap (λ b. cond b (GivenUp Refused) h.place) e) ∙ place; closed = a.closed; untouched = λ n. never n }
-    at false e = record { place = sym (ap (λ b. cond b (GivenUp Refused) h.place) e) ∙ place; closed = a.closed; untouched = λ n. never n }
+    at : (b : Bool) → (is_waiting h.place || is_frozen h.place) ≡ b → IsAt u (cond b (record h { place = GivenUp (why_of cause) }) h)
+    at true e = record { place = sym (ap (λ b. cond b (GivenUp (why_of cause)) h.place) e) ∙ place; closed = a.closed ∙ sym (gives.same_closed k); untouched = λ n. never n }
+    at false e = record { place = sym (ap (λ b. cond b (GivenUp (why_of cause)) h.place) e) ∙ place; closed = a.closed ∙ sym (gives.same_closed k); untouched = λ n. never n }
+
+-- a refusal does, and giving up unsent
+pub refusal_gives : (p : Reply) (t : List Move) → is_success p ≡ false → IsGivingUp WasRefused t (Answers p ∷ t)
+refusal_gives p t bad = record {
+  same_closed = λ lsn. refl;
+  same_requests = refl;
+  same_settled = ap (λ b. cond b (requests t) (settled t)) bad;
+  given = λ lsn. ap (λ b. cond b (given_up t lsn) (or_cause (given_up t lsn) (uses lsn (settled t) == 0) WasRefused)) bad;
+}
+
+pub unsent_gives : (t : List Move) → IsGivingUp WasNotSent t (GivesUp ∷ t)
+unsent_gives t = record { same_closed = λ lsn. refl; same_requests = refl; same_settled = refl; given = λ lsn. refl }

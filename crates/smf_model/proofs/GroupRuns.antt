@@ -1,4 +1,10 @@
 -- Each part of an event leaves a rating group's quota as what came to it says.
+use Rattle.smf_model.specs.declared.session.Why.TheVariants.{NotSent as NotSentWhy}
+use Rattle.smf_model.specs.declared.session.Life.TheVariants.{Live, Ending, Aborting, Ended}
+use Rattle.smf_model.specs.declared.session.Life.{Life}
+use Rattle.smf_model.specs.Rounds.{is_continue, is_last, with_loss, next_turn, next_round, continue_entry, broken_off, after_round, lost}
+use Rattle.smf_model.specs.declared.session.Loss.TheVariants.{Unsent, Unanswered}
+use Rattle.smf_model.specs.declared.session.Loss.{Loss}
 use Rattle.std.proofs.Common.{◌≡◌, ℕ, ◌+◌, ◌==◌, Bool, true, false, cond, List, [], ◌∷◌, ◌++◌, map, fold, refl, sym, ◌∙◌, ap, subst, append_assoc, append-nil, eq-eqb}
 use Rattle.std.specs.Prelude.{Option, Some, None}
 use Rattle.std.proofs.lemmas.Bool.{eqb-true}
@@ -11,22 +17,22 @@ use Rattle.units.specs.declared.reply.Reply.{Reply}
 use Rattle.units.specs.declared.reply.Reply.TheVariants.{Created, Updated, Released, Refused}
 use Rattle.quotas.specs.Due.{due_of}
 use Rattle.quotas.specs.Laws.{FitsGranted, DueByTheList}
-use Rattle.quotas.specs.Quota.{gate_of, asked, frozen, answered, used, fired}
+use Rattle.quotas.specs.Quota.{gate_of, asked, frozen, answered, used, fired, continued}
 use Rattle.quotas.specs.Steps.{quota_after}
 use Rattle.quotas.specs.declared.step.Step.{Step}
-use Rattle.quotas.specs.declared.step.Step.TheVariants.{Asked, Used}
+use Rattle.quotas.specs.declared.step.Step.TheVariants.{Asked, Used, Continued}
 use Rattle.smf_model.specs.declared.setup.SmfSetup.{SmfSetup}
 use Rattle.smf_model.specs.declared.session.Entry.{Entry}
 use Rattle.smf_model.specs.declared.session.Session.{Session}
 use Rattle.smf_model.specs.declared.event.SmfEvent.{SmfEvent}
-use Rattle.smf_model.specs.declared.event.SmfEvent.TheVariants.{Attach, Start, Count, Change, Tick, Detach, Answered}
+use Rattle.smf_model.specs.declared.event.SmfEvent.TheVariants.{Attach, Start, Count, Change, Tick, Detach, Answered, Attempt, NotSent, NoReply, Restart}
 use Rattle.smf_model.specs.Settle.{entry_of, due_in, fire, settled}
 use Rattle.smf_model.specs.Freeze.{next_operation, freeze_by, freeze_entry, with_request}
-use Rattle.smf_model.specs.Traffic.{count_entry, or_new, asked_entry, with_asked, detached}
+use Rattle.smf_model.specs.Traffic.{count_entry, or_new, asked_entry, with_asked, detached, ended_for}
 use Rattle.smf_model.specs.Replies.{info_of, answer_entry, answered_by}
 use Rattle.smf_model.specs.Machine.{machine_after, session_of, touches, effect, finished, fresh, added_by}
 use Rattle.smf_model.specs.GroupSteps.{on_entry, fired_step, frozen_step, finish_steps, used_step, answered_step, reply_step}
-use Rattle.smf_model.specs.Came.{asked_step, effect_steps, asked_steps, attach_steps, added_steps, steps_in, steps}
+use Rattle.smf_model.specs.Came.{asked_step, effect_steps, asked_steps, attach_steps, added_steps, steps_in, steps, lost_step}
 use Rattle.smf_model.specs.Quotas.{EntryIsOfSteps, StandsBySteps}
 use Rattle.smf_model.proofs.Runs.{number-next}
 use Rattle.smf_model.proofs.Lookups.{entry_then, found_mapped, found_asked}
@@ -126,20 +132,51 @@ detached_on : (abnormal : Bool) (group moment : ℕ) (t : List Step) (s : Sessio
 detached_on true group moment t s h = h
 detached_on false group moment t s h = h
 
-effect_on : (event : SmfEvent) (now group : ℕ) (t : List Step) (s : Session) → On group t s → On group (effect_steps group event s ++ t) (effect now event s)
-effect_on (Attach session subscriber groups moment) now group t s h = h
-effect_on (Start session asking moment) now group t s h = asked_on asking group t s.groups h
-effect_on (Count session r) now group t s h = part group (count_entry r) (used_step r) s.groups (map (count_entry r) s.groups) t refl (count_same r) (λ e k. count_takes r e t k) h
-effect_on (Change session trigger moment) now group t s h = part group (fire (Some trigger)) (λ e. fired_step (Some trigger)) s.groups (map (fire (Some trigger)) s.groups) t refl (λ e. refl) (λ e k. ap (fired trigger) k) h
-effect_on (Tick moment) now group t s h = h
-effect_on (Detach session abnormal moment) now group t s h = detached_on abnormal group moment t s h
-effect_on (Answered session number reply) now group t s h = answered_on now group reply s.request t s h
+-- the end of an attempt
+still_on : (o : Option Entry) (t : List Step) → Follows t o → Follows (on_entry o (λ e. []) ++ t) o
+still_on None t h = h
+still_on (Some e) t h = h
+
+round_on : (setup : SmfSetup) (now group : ℕ) (t : List Step) (s : Session) → On group t s → On group (on_entry (entry_of group s.groups) (λ e. cond (is_continue s.handling) (Continued ∷ []) []) ++ t) (after_round setup now s)
+round_on setup now group t s h = at (is_continue s.handling) s.sending.unsent
+  where
+    same_groups : (l : Life) → s.groups ≡ (broken_off now l s).groups
+    same_groups Live = refl
+    same_groups Ending = refl
+    same_groups Aborting = refl
+    same_groups Ended = refl
+
+    at : (c u : Bool) → On group (on_entry (entry_of group s.groups) (λ e. cond c (Continued ∷ []) []) ++ t)
+        (cond c (record (next_round setup now s) { groups = map continue_entry s.groups }) (cond u (ended_for NotSentWhy now s) (next_round setup now (broken_off now s.life s))))
+    at true u = part group continue_entry (λ e. Continued ∷ []) s.groups (map continue_entry s.groups) t refl (λ e. refl) (λ e k. ap continued k) h
+    at false true = still_on (entry_of group s.groups) t h
+    at false false = subst (λ es. Follows (on_entry (entry_of group s.groups) (λ e. []) ++ t) (entry_of group es)) (same_groups s.life) (still_on (entry_of group s.groups) t h)
+
+lost_on : (setup : SmfSetup) (now group : ℕ) (loss : Loss) (t : List Step) (s : Session) → On group t s → On group (on_entry (entry_of group s.groups) (λ e. lost_step s) ++ t) (lost setup now loss s)
+lost_on setup now group loss t s h = at (is_last s)
+  where
+    at : (b : Bool) → On group (on_entry (entry_of group s.groups) (λ e. cond b (cond (is_continue s.handling) (Continued ∷ []) []) []) ++ t) (cond b (after_round setup now (with_loss loss s)) (next_turn (with_loss loss s)))
+    at true = round_on setup now group t (with_loss loss s) h
+    at false = still_on (entry_of group s.groups) t h
+
+effect_on : (event : SmfEvent) (setup : SmfSetup) (now group : ℕ) (t : List Step) (s : Session) → On group t s → On group (effect_steps group event s ++ t) (effect setup now event s)
+effect_on (Attach session subscriber groups moment) setup now group t s h = h
+effect_on (Start session asking moment) setup now group t s h = asked_on asking group t s.groups h
+effect_on (Count session r) setup now group t s h = part group (count_entry r) (used_step r) s.groups (map (count_entry r) s.groups) t refl (count_same r) (λ e k. count_takes r e t k) h
+effect_on (Change session trigger moment) setup now group t s h = part group (fire (Some trigger)) (λ e. fired_step (Some trigger)) s.groups (map (fire (Some trigger)) s.groups) t refl (λ e. refl) (λ e k. ap (fired trigger) k) h
+effect_on (Tick moment) setup now group t s h = h
+effect_on (Detach session abnormal moment) setup now group t s h = detached_on abnormal group moment t s h
+effect_on (Answered session number reply) setup now group t s h = answered_on now group reply s.request t s h
+effect_on (Attempt session peer) setup now group t s h = h
+effect_on (NotSent session) setup now group t s h = lost_on setup now group Unsent t s h
+effect_on (NoReply session) setup now group t s h = lost_on setup now group Unanswered t s h
+effect_on Restart setup now group t s h = lost_on setup now group Unanswered t s h
 
 next_by : (b : Bool) (event : SmfEvent) (setup : SmfSetup) (now group : ℕ) (t : List Step) (s : Session) → On group t s
-    → On group (cond b (finish_steps setup now group (effect now event s) ++ effect_steps group event s) [] ++ t) (cond b (finished setup now (effect now event s)) s)
+    → On group (cond b (finish_steps setup now group (effect setup now event s) ++ effect_steps group event s) [] ++ t) (cond b (finished setup now (effect setup now event s)) s)
 next_by true event setup now group t s h =
-    subst (λ l. Follows l (entry_of group (finished setup now (effect now event s)).groups)) (sym (append_assoc (finish_steps setup now group (effect now event s)) (effect_steps group event s) t))
-    (finished_on setup now group (effect_steps group event s ++ t) (effect now event s) (effect_on event now group t s h))
+    subst (λ l. Follows l (entry_of group (finished setup now (effect setup now event s)).groups)) (sym (append_assoc (finish_steps setup now group (effect setup now event s)) (effect_steps group event s) t))
+    (finished_on setup now group (effect_steps group event s ++ t) (effect setup now event s) (effect_on event setup now group t s h))
 next_by false event setup now group t s h = h
 
 created_on : (setup : SmfSetup) (now group number : ℕ) (subscriber groups : List ℕ) (moment : ℕ) → On group (attach_steps setup now group groups (fresh setup number subscriber groups moment)) (finished setup now (with_request setup now Create (fresh setup number subscriber groups moment)))
@@ -164,6 +201,10 @@ attached setup now number group (Change session trigger moment) = refl
 attached setup now number group (Tick moment) = refl
 attached setup now number group (Detach session abnormal moment) = refl
 attached setup now number group (Answered session place reply) = refl
+attached setup now number group (Attempt session peer) = refl
+attached setup now number group (NotSent session) = refl
+attached setup now number group (NoReply session) = refl
+attached setup now number group Restart = refl
 
 on_kept : (setup : SmfSetup) (group : ℕ) → IsKept setup (On group) (steps_in group)
 on_kept setup group = record {

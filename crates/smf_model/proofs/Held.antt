@@ -17,6 +17,7 @@ use Rattle.smf_model.specs.declared.session.Holding.{Holding}
 use Rattle.smf_model.specs.declared.session.Session.{Session}
 use Rattle.smf_model.specs.Settle.{is_open, is_waiting, entry_of, close, close_due, due_at, settled}
 use Rattle.smf_model.specs.Freeze.{waiting_count, move_oldest, next_operation, operation_in, request_of, freeze_due, freeze_by, with_request}
+use Rattle.smf_model.specs.Sending.{unmarked}
 use Rattle.smf_model.specs.Traffic.{close_any}
 use Rattle.smf_model.specs.Machine.{is_ended, finished}
 use Rattle.smf_model.specs.Trace.{closes_of, closes_all, settle_moves, freeze_moves, freeze_moves_by, drop_moves, finish_moves, unanswered}
@@ -32,7 +33,7 @@ pub record Stands (t : List Move) (s : Session) : Type 0 where
   pub each : AllByRecursion (IsAt t) s.holdings
   pub beyond : (lsn : ℕ) → length s.holdings < lsn → closed_as t lsn ≡ None
   pub count : s.count ≡ length (requests t)
-  pub unanswered : s.request ≡ unanswered t
+  pub unanswered : unmarked s.request ≡ unanswered t
   pub asked : is_some s.request ≡ true → phase t ≡ Asked
   pub idle : is_some s.request ≡ false → is_ended s.life ≡ false → phase t ≡ Idle
 
@@ -56,7 +57,7 @@ same_stands t s u holdings count request life h = record {
   each = subst (λ hs. AllByRecursion (IsAt t) hs) (sym holdings) h.each;
   beyond = λ lsn l. h.beyond lsn (subst (λ hs. length hs < lsn) holdings l);
   count = count ∙ h.count;
-  unanswered = request ∙ h.unanswered;
+  unanswered = ap unmarked request ∙ h.unanswered;
   asked = λ e. h.asked (ap is_some (sym request) ∙ e);
   idle = λ e on. h.idle (ap is_some (sym request) ∙ e) (life on);
 }
@@ -74,7 +75,7 @@ closed_stands m closing opens t s u holdings count request life h =
       each = subst (λ hs. AllByRecursion (IsAt (closes_of m closing s.holdings ++ t)) hs) (sym holdings) left.each;
       beyond = λ lsn l. closes_beyond m closing t 1 s.holdings lsn h.numbered (omega (arith, l, long)) ∙ h.beyond lsn (omega (arith, l, long));
       count = count ∙ h.count ∙ ap length (sym same.requests);
-      unanswered = request ∙ h.unanswered ∙ sym same.unanswered;
+      unanswered = ap unmarked request ∙ h.unanswered ∙ sym same.unanswered;
       asked = λ e. same.phase ∙ h.asked (ap is_some (sym request) ∙ e);
       idle = λ e on. same.phase ∙ h.idle (ap is_some (sym request) ∙ e) (life on);
     }
@@ -118,7 +119,7 @@ dropped_stands most t s u holdings count request life h =
       each = subst (λ hs. AllByRecursion (IsAt (drop_moves most s.holdings ++ t)) hs) (sym holdings) left.each;
       beyond = λ lsn l. drops_unclosed t s.holdings most lsn ∙ h.beyond lsn (omega (arith, l, long));
       count = count ∙ h.count ∙ ap length (sym same.requests);
-      unanswered = request ∙ h.unanswered ∙ sym same.unanswered;
+      unanswered = ap unmarked request ∙ h.unanswered ∙ sym same.unanswered;
       asked = λ e. same.phase ∙ h.asked (ap is_some (sym request) ∙ e);
       idle = λ e on. same.phase ∙ h.idle (ap is_some (sym request) ∙ e) (ap is_ended (sym life) ∙ on);
     }

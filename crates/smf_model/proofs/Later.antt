@@ -13,24 +13,28 @@ use Rattle.meter.specs.Joining.{extended}
 use Rattle.smf_model.specs.declared.setup.SmfSetup.{SmfSetup}
 use Rattle.smf_model.specs.declared.session.Life.{Life}
 use Rattle.smf_model.specs.declared.session.Life.TheVariants.{Ending, Aborting, Ended}
+use Rattle.smf_model.specs.declared.session.Loss.{Loss}
+use Rattle.smf_model.specs.declared.session.Loss.TheVariants.{Unsent, Unanswered}
 use Rattle.smf_model.specs.declared.session.Why.{Why}
-use Rattle.smf_model.specs.declared.session.Why.TheVariants.{HeldFull, Refused as RefusedWhy}
+use Rattle.smf_model.specs.declared.session.Why.TheVariants.{NotSent as NotSentWhy, HeldFull, Refused as RefusedWhy}
 use Rattle.smf_model.specs.declared.session.Place.{Place}
 use Rattle.smf_model.specs.declared.session.Place.TheVariants.{Open, Waiting, Frozen, Answered, GivenUp}
 use Rattle.smf_model.specs.declared.session.Holding.{Holding}
 use Rattle.smf_model.specs.declared.session.Session.{Session}
 use Rattle.smf_model.specs.declared.session.Machine.{Machine}
 use Rattle.smf_model.specs.declared.event.SmfEvent.{SmfEvent}
-use Rattle.smf_model.specs.declared.event.SmfEvent.TheVariants.{Attach, Start, Count, Change, Tick, Detach, Answered as GotAnswer}
+use Rattle.smf_model.specs.declared.event.SmfEvent.TheVariants.{Attach, Start, Count, Change, Tick, Detach, Answered as GotAnswer, Attempt, NotSent, NoReply, Restart}
 use Rattle.smf_model.specs.declared.refusal.Seen.{Seen}
 use Rattle.smf_model.specs.declared.refusal.Seen.TheVariants.{New, Known}
 use Rattle.smf_model.specs.declared.refusal.SmfRefusal.{SmfRefusal}
 use Rattle.smf_model.specs.Settle.{is_open, is_waiting, is_frozen, is_open_of, entry_of, close, close_due, due_at, settled}
 use Rattle.smf_model.specs.Freeze.{move_oldest, waiting_count, freeze_due, freeze_by, next_operation}
 use Rattle.smf_model.specs.Traffic.{close_of, extend_of, first_of, joined, taken, close_any, without_traffic, give_up, ended_for}
+use Rattle.smf_model.specs.Rounds.{lost}
 use Rattle.smf_model.specs.Replies.{answer_holding, replied, answered_by}
 use Rattle.smf_model.specs.Machine.{machine_after, answer_of, after_answer, now_after, next_session, session_of, finished, touches, effect}
 use Rattle.smf_model.specs.Forward.{rank, GoesOn, AreLater, IsLaterSession}
+use Rattle.smf_model.proofs.Losing.{KeptByLoss, lost_kept}
 use Rattle.smf_model.proofs.Runs.{number-next}
 
 stays : (h : Holding) → GoesOn h h
@@ -180,14 +184,29 @@ answered_on : (now : ℕ) (p : Reply) (q : Option Request) (s : Session) → On 
 answered_on now p None s = later_same s.holdings
 answered_on now p (Some q) s = replied_on now q.stamp p s
 
-effect_on : (event : SmfEvent) (now : ℕ) (s : Session) → On s (effect now event s)
-effect_on (Attach session subscriber groups moment) now s = later_same s.holdings
-effect_on (Start session group moment) now s = later_same s.holdings
-effect_on (Count session r) now s = taken_later r _ s.holdings
-effect_on (Change session trigger moment) now s = later_map _ s.holdings (close_any_later moment trigger)
-effect_on (Tick moment) now s = later_same s.holdings
-effect_on (Detach session abnormal moment) now s = on_cond abnormal s (without_traffic Aborting moment AbnormalRelease s) (without_traffic Ending moment Final s) (without_on Aborting moment AbnormalRelease s) (without_on Ending moment Final s)
-effect_on (GotAnswer session number reply) now s = answered_on now reply s.request s
+on_by_loss : (s : Session) → KeptByLoss (λ t u. On s u) (λ o. Unit {0})
+on_by_loss s = record {
+  sends = λ x t u flies unsent h. h;
+  continues = λ t u h. h;
+  breaks = λ now t u live h. later_then s.holdings u.holdings _ h (without_on Aborting now AbnormalRelease u);
+  gives_up = λ now t u landed unsent asked h. later_then s.holdings u.holdings _ h (ended_for_on NotSentWhy now u);
+}
+
+lost_on : (setup : SmfSetup) (now : ℕ) (loss : Loss) (s : Session) → On s (lost setup now loss s)
+lost_on setup now loss s = lost_kept (λ t u. On s u) (λ o. Unit {0}) (on_by_loss s) setup now loss [] s tt (later_same s.holdings)
+
+effect_on : (event : SmfEvent) (setup : SmfSetup) (now : ℕ) (s : Session) → On s (effect setup now event s)
+effect_on (Attach session subscriber groups moment) setup now s = later_same s.holdings
+effect_on (Start session group moment) setup now s = later_same s.holdings
+effect_on (Count session r) setup now s = taken_later r _ s.holdings
+effect_on (Change session trigger moment) setup now s = later_map _ s.holdings (close_any_later moment trigger)
+effect_on (Tick moment) setup now s = later_same s.holdings
+effect_on (Detach session abnormal moment) setup now s = on_cond abnormal s (without_traffic Aborting moment AbnormalRelease s) (without_traffic Ending moment Final s) (without_on Aborting moment AbnormalRelease s) (without_on Ending moment Final s)
+effect_on (GotAnswer session number reply) setup now s = answered_on now reply s.request s
+effect_on (Attempt session peer) setup now s = later_same s.holdings
+effect_on (NotSent session) setup now s = lost_on setup now Unsent s
+effect_on (NoReply session) setup now s = lost_on setup now Unanswered s
+effect_on Restart setup now s = lost_on setup now Unanswered s
 
 freeze_on : (next : Option Operation) (setup : SmfSetup) (now : ℕ) (s : Session) → On s (freeze_by setup now next s)
 freeze_on None setup now s = later_same s.holdings
@@ -200,7 +219,7 @@ finished_on setup now s =
     (move_oldest_later (waiting_count (freeze_due setup now (settled setup now s)).holdings - setup.held_max) (GivenUp HeldFull) (freeze_due setup now (settled setup now s)).holdings (omega arith)))
 
 next_on : (event : SmfEvent) (setup : SmfSetup) (now : ℕ) (s : Session) → On s (next_session setup now event s)
-next_on event setup now s = on_cond (touches event s) s _ _ (later_then s.holdings (effect now event s).holdings _ (effect_on event now s) (finished_on setup now (effect now event s))) (later_same s.holdings)
+next_on event setup now s = on_cond (touches event s) s _ _ (later_then s.holdings (effect setup now event s).holdings _ (effect_on event setup now s) (finished_on setup now (effect setup now event s))) (later_same s.holdings)
 
 -- machines
 

@@ -1,3 +1,4 @@
+pub mod Losing
 pub mod Agreement
 pub mod Runs
 pub mod Later
@@ -8,7 +9,9 @@ pub mod Counted
 pub mod Frozen
 pub mod Held
 pub mod Entries
+pub mod Sends
 pub mod Effects
+pub mod Losses
 pub mod Traces
 pub mod Limits
 pub mod Prefixes

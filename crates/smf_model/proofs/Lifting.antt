@@ -1,16 +1,18 @@
 -- A law of one session over every list of events, from what each new event does to the session.
 use Rattle.std.proofs.Common.{◌≡◌, ℕ, ◌==◌, List, [], ◌∷◌, ◌++◌, map, refl, sym, ◌∙◌, ap, subst, Bool, true, false, cond}
-use Rattle.std.specs.Prelude.{Option, Some, None, Result, Ok, Err}
-use Rattle.std.proofs.lemmas.Bool.{eqb-true}
+use Rattle.std.specs.Prelude.{◌&&◌, not, Option, Some, None, is_some, Result, Ok, Err}
+use Rattle.std.proofs.lemmas.Bool.{eqb-true, and_parts}
 use Rattle.smf_model.specs.declared.setup.SmfSetup.{SmfSetup}
+use Rattle.smf_model.specs.declared.session.Peer.{Peer}
 use Rattle.smf_model.specs.declared.session.Session.{Session}
 use Rattle.smf_model.specs.declared.session.Machine.{Machine}
 use Rattle.smf_model.specs.declared.event.SmfEvent.{SmfEvent}
-use Rattle.smf_model.specs.declared.event.SmfEvent.TheVariants.{Attach, Start, Count, Change, Tick, Detach, Answered}
+use Rattle.smf_model.specs.declared.event.SmfEvent.TheVariants.{Attach, Start, Count, Change, Tick, Detach, Answered, Attempt, NotSent, NoReply, Restart}
 use Rattle.smf_model.specs.declared.refusal.Seen.{Seen}
 use Rattle.smf_model.specs.declared.refusal.Seen.TheVariants.{New, Known}
 use Rattle.smf_model.specs.declared.refusal.SmfRefusal.{SmfRefusal}
-use Rattle.smf_model.specs.Machine.{machine_after, answer_of, after_answer, now_after, next_session, session_of, added_by, on_session, start_answer, count_answer, change_answer, detach_answer, reply_answer}
+use Rattle.smf_model.specs.Machine.{machine_after, answer_of, after_answer, now_after, next_session, session_of, added_by, on_session, start_answer, count_answer, change_answer, detach_answer, reply_answer, attempt_answer, loss_answer}
+use Rattle.smf_model.specs.Sending.{is_past, may_send, send_of, is_send}
 use Rattle.smf_model.specs.History.{Brings, brought, history}
 use Rattle.smf_model.proofs.Runs.{number-next}
 
@@ -51,12 +53,37 @@ IsNew (Change session trigger moment) s = (s.number == session) ≡ true → cha
 IsNew (Tick moment) s = Unit {0}
 IsNew (Detach session abnormal moment) s = (s.number == session) ≡ true → detach_answer moment s ≡ Ok New
 IsNew (Answered session number reply) s = (s.number == session) ≡ true → reply_answer number reply s ≡ Ok New
+IsNew (Attempt session peer) s = (s.number == session) ≡ true → (is_some s.request ≡ true) × (s.sending.in_flight ≡ false)
+IsNew (NotSent session) s = (s.number == session) ≡ true → s.sending.in_flight ≡ true
+IsNew (NoReply session) s = (s.number == session) ≡ true → s.sending.in_flight ≡ true
+IsNew Restart s = Unit {0}
 
 own_answer : (number session : ℕ) (xs : List Session) (s : Session) (answer : Session → Result Seen SmfRefusal) → session_of number xs ≡ Some s → (s.number == number) ≡ true
     → on_session (session_of session xs) answer ≡ Ok New → (s.number == session) ≡ true → answer s ≡ Ok New
 own_answer number session xs s answer found is new on =
     let here : number ≡ session = sym (eqb-true s.number number is) ∙ eqb-true s.number session on in
     ap (λ o. on_session o answer) (sym found) ∙ ap (λ n. on_session (session_of n xs) answer) here ∙ new
+
+abbrev new_or_known : Bool → Result Seen SmfRefusal
+new_or_known b = cond b (Ok New) (Ok Known)
+
+answered_new : (b : Bool) → new_or_known b ≡ Ok New → b ≡ true
+answered_new true e = refl
+answered_new false e = cc
+
+grounded : (b : Bool) → not b ≡ true → b ≡ false
+grounded true e = cc
+grounded false e = refl
+
+-- an attempt that is new is of an unanswered request that has none in flight
+may_attempt : (now : ℕ) (sessions : List Session) (peer : Peer) (s : Session) → attempt_answer now sessions peer s ≡ Ok New → (is_some s.request ≡ true) × (s.sending.in_flight ≡ false)
+may_attempt now sessions peer s new =
+    let may = and_parts (may_send now s) (is_send s.number peer (send_of now sessions)) (answered_new (may_send now s && is_send s.number peer (send_of now sessions)) new) in
+    let asks = and_parts (is_some s.request) (not s.sending.in_flight && is_past now s.sending.wait) may.0 in
+    (asks.0, grounded s.sending.in_flight (and_parts (not s.sending.in_flight) (is_past now s.sending.wait) asks.1).0)
+
+may_lose : (s : Session) → loss_answer s ≡ Ok New → s.sending.in_flight ≡ true
+may_lose s new = answered_new s.sending.in_flight new
 
 pub is_new : (event : SmfEvent) (m : Machine) (number : ℕ) (s : Session) → session_of number m.sessions ≡ Some s → (s.number == number) ≡ true → answer_of m event ≡ Ok New → IsNew event s
 is_new (Attach session subscriber groups moment) m number s found is new = tt
@@ -66,6 +93,10 @@ is_new (Change session trigger moment) m number s found is new = own_answer numb
 is_new (Tick moment) m number s found is new = tt
 is_new (Detach session abnormal moment) m number s found is new = own_answer number session m.sessions s (detach_answer moment) found is new
 is_new (Answered session place reply) m number s found is new = own_answer number session m.sessions s (reply_answer place reply) found is new
+is_new (Attempt session peer) m number s found is new = λ on. may_attempt m.moment m.sessions peer s (own_answer number session m.sessions s (attempt_answer m.moment m.sessions peer) found is new on)
+is_new (NotSent session) m number s found is new = λ on. may_lose s (own_answer number session m.sessions s loss_answer found is new on)
+is_new (NoReply session) m number s found is new = λ on. may_lose s (own_answer number session m.sessions s loss_answer found is new on)
+is_new Restart m number s found is new = tt
 
 -- a session that is not there has no history
 abbrev pub WithBoth : {X Y : Type 0} → (List X → List Y → Session → Type 0) → List X → List Y → Option Session → Type 0

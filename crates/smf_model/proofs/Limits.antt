@@ -10,7 +10,7 @@ use Rattle.smf_model.specs.declared.session.Place.TheVariants.{GivenUp}
 use Rattle.smf_model.specs.declared.session.Holding.{Holding}
 use Rattle.smf_model.specs.declared.session.Session.{Session}
 use Rattle.smf_model.specs.declared.event.SmfEvent.{SmfEvent}
-use Rattle.smf_model.specs.declared.event.SmfEvent.TheVariants.{Attach, Start, Count, Change, Tick, Detach, Answered}
+use Rattle.smf_model.specs.declared.event.SmfEvent.TheVariants.{Attach, Start, Count, Change, Tick, Detach, Answered, Attempt, NotSent, NoReply, Restart}
 use Rattle.smf_model.specs.Settle.{is_waiting, settled}
 use Rattle.smf_model.specs.Freeze.{waiting_count, move_oldest, freeze_due, with_request}
 use Rattle.smf_model.specs.Machine.{machine_after, session_of, touches, effect, finished, fresh, added_by}
@@ -56,8 +56,8 @@ finished_within setup now s = within setup.held_max (freeze_due setup now (settl
 abbrev Waits : ℕ → List ℕ → Session → Type 0
 Waits most t s = waiting_count s.holdings ≤ most
 
-next_within : (b : Bool) (setup : SmfSetup) (now : ℕ) (event : SmfEvent) (s : Session) → waiting_count s.holdings ≤ setup.held_max → waiting_count (cond b (finished setup now (effect now event s)) s).holdings ≤ setup.held_max
-next_within true setup now event s h = finished_within setup now (effect now event s)
+next_within : (b : Bool) (setup : SmfSetup) (now : ℕ) (event : SmfEvent) (s : Session) → waiting_count s.holdings ≤ setup.held_max → waiting_count (cond b (finished setup now (effect setup now event s)) s).holdings ≤ setup.held_max
+next_within true setup now event s h = finished_within setup now (effect setup now event s)
 next_within false setup now event s h = h
 
 attached_within : (b : Bool) (most : ℕ) (s : Session) → waiting_count s.holdings ≤ most → With (Waits most) [] (cond b (Some s) None)
@@ -74,6 +74,10 @@ added_within setup now number (Change session trigger moment) = refl
 added_within setup now number (Tick moment) = refl
 added_within setup now number (Detach session abnormal moment) = refl
 added_within setup now number (Answered session place reply) = refl
+added_within setup now number (Attempt session peer) = refl
+added_within setup now number (NotSent session) = refl
+added_within setup now number (NoReply session) = refl
+added_within setup now number Restart = refl
 
 kept_within : (setup : SmfSetup) → IsKept setup (Waits setup.held_max) nothing
 kept_within setup = record {

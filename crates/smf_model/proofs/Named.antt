@@ -1,5 +1,13 @@
 -- After any events each request of a session is named by it.
-use Rattle.std.proofs.Common.{◌≡◌, ◌⊎◌, ℕ, ◌-◌, ◌≤◌, ◌==◌, ◌&&◌, nat_lt, nat_le, ◌||◌, Bool, true, false, cond, List, [], ◌∷◌, ◌++◌, length, inl, inr, refl, sym, ◌∙◌, ap, subst, arith, append_assoc, append-nil}
+use Rattle.smf_model.proofs.Losing.{KeptByLoss, lost_kept}
+use Rattle.smf_model.specs.declared.session.Why.TheVariants.{NotSent as NotSentWhy}
+use Rattle.smf_model.specs.Rounds.{with_loss, continue_entry, lost}
+use Rattle.smf_model.specs.Sending.{unmarked, attempted, latest_peer, with_peer}
+use Rattle.units.specs.declared.trigger.TriggerType.TheVariants.{AbnormalRelease}
+use Rattle.sessions.specs.Content.{content}
+use Rattle.smf_model.specs.declared.session.Loss.TheVariants.{Unsent, Unanswered}
+use Rattle.smf_model.specs.declared.session.Loss.{Loss}
+use Rattle.std.proofs.Common.{◌≡◌, ◌⊎◌, ℕ, ◌-◌, ◌≤◌, ◌==◌, ◌&&◌, nat_lt, nat_le, ◌||◌, Bool, true, false, cond, List, [], ◌∷◌, ◌++◌, length, inl, inr, refl, sym, ◌∙◌, ap, subst, arith, append_assoc, append-nil, map}
 use Rattle.std.specs.Prelude.{Option, Some, None, is_some}
 use Rattle.std.specs.List.{list_any}
 use Rattle.std.proofs.lemmas.Bool.{eqb-true, eq-eqb, and_parts}
@@ -18,14 +26,14 @@ use Rattle.smf_model.specs.declared.session.Life.TheVariants.{Live, Ending, Abor
 use Rattle.smf_model.specs.declared.session.Holding.{Holding}
 use Rattle.smf_model.specs.declared.session.Session.{Session}
 use Rattle.smf_model.specs.declared.event.SmfEvent.{SmfEvent}
-use Rattle.smf_model.specs.declared.event.SmfEvent.TheVariants.{Attach, Start, Count, Change, Tick, Detach, Answered}
+use Rattle.smf_model.specs.declared.event.SmfEvent.TheVariants.{Attach, Start, Count, Change, Tick, Detach, Answered, Attempt, NotSent as CameUnsent, NoReply as CameNoReply, Restart}
 use Rattle.smf_model.specs.Rules.{changes_of}
 use Rattle.smf_model.specs.Settle.{is_waiting, settled}
 use Rattle.smf_model.specs.Freeze.{waiting_count, is_wanting, live_operation, ending_operation, operation_in, next_operation, request_of, freeze_due, freeze_by, with_request}
-use Rattle.smf_model.specs.Traffic.{detached}
+use Rattle.smf_model.specs.Traffic.{detached, without_traffic, ended_for}
 use Rattle.smf_model.specs.Replies.{is_final_for, is_answer_to, replied, answered_by}
 use Rattle.smf_model.specs.Machine.{machine_after, session_of, touches, effect, finished, next_session, fresh, added_by}
-use Rattle.smf_model.specs.Trace.{trace, close_moves, closes_of, settle_moves, freeze_moves_by, drop_moves, finish_moves, ending_moves, reply_moves, effect_moves, moves_of, added_moves, unanswered}
+use Rattle.smf_model.specs.Trace.{trace, close_moves, closes_of, settle_moves, freeze_moves_by, drop_moves, finish_moves, ending_moves, reply_moves, effect_moves, moves_of, added_moves, unanswered, closes_all, loss_move, lost_moves}
 use Rattle.smf_model.specs.History.{history}
 use Rattle.smf_model.specs.RequestNames.{IsReference, IsLaterOperation, AreNamed}
 use Rattle.smf_model.proofs.Runs.{number-next, same_effect}
@@ -190,25 +198,30 @@ over_named setup number p q t u s v is l rs same h = record {
   reference = λ r e. same_outcome (Answers p ∷ t) (Answers p ∷ u) r (same_first p t u rs l.outcome) (still_known t q p r is (h.reference r (sym same ∙ e)));
 }
 
-replied_named : (now place number : ℕ) (setup : SmfSetup) (p : Reply) (q : Request) (t : List Move) (s : Session) → unanswered t ≡ Some q → is_final_for q.operation p place ≡ true → IsNamedSession setup number t s
+replied_named : (now place number : ℕ) (setup : SmfSetup) (p : Reply) (q : Request) (t : List Move) (s : Session) → unanswered t ≡ Some (content q) → is_final_for q.operation p place ≡ true → IsNamedSession setup number t s
     → IsNamedSession setup number (Answers p ∷ (ending_moves now p s ++ t)) (replied now q.stamp p s)
 replied_named now place number setup (Created reference answer) q t s is final h = record {
   named = h.named;
   reference = λ r e.
-      let first : length (requests t) ≡ 1 = create_first setup number t q h.named is (created_of q.operation reference place answer final) in
+      let first : length (requests t) ≡ 1 = create_first setup number t (content q) h.named is (created_of q.operation reference place answer final) in
       subst (IsReference (Answers (Created reference answer) ∷ t)) (some_reference reference r e)
       (answer, ap (λ b. cond b (Some (Created reference answer)) (outcome t 1)) (eq-eqb (length (requests t)) 1 first));
 }
-replied_named now place number setup (Updated answer) q t s is final h = record { named = h.named; reference = λ r e. still_known t q (Updated answer) r is (h.reference r e) }
+replied_named now place number setup (Updated answer) q t s is final h = record { named = h.named; reference = λ r e. still_known t (content q) (Updated answer) r is (h.reference r e) }
 replied_named now place number setup Released q t s is final h =
-    over_named setup number Released q t (ending_moves now Released s ++ t) s (replied now q.stamp Released s) is (closes_names now _ s.holdings t) (closes_leave now _ t s.holdings).requests refl h
+    over_named setup number Released (content q) t (ending_moves now Released s ++ t) s (replied now q.stamp Released s) is (closes_names now _ s.holdings t) (closes_leave now _ t s.holdings).requests refl h
 replied_named now place number setup (Refused problem) q t s is final h =
-    over_named setup number (Refused problem) q t (ending_moves now (Refused problem) s ++ t) s (replied now q.stamp (Refused problem) s) is (closes_names now _ s.holdings t) (closes_leave now _ t s.holdings).requests refl h
+    over_named setup number (Refused problem) (content q) t (ending_moves now (Refused problem) s ++ t) s (replied now q.stamp (Refused problem) s) is (closes_names now _ s.holdings t) (closes_leave now _ t s.holdings).requests refl h
 
-answered_named : (now place number : ℕ) (setup : SmfSetup) (p : Reply) (o : Option Request) (t : List Move) (s : Session) → unanswered t ≡ o → is_answer_to place p o ≡ true → IsNamedSession setup number t s
+same_moves : (setup : SmfSetup) (number : ℕ) (t : List Move) (s v : Session) → v.reference ≡ s.reference → IsNamedSession setup number t s → IsNamedSession setup number t v
+same_moves setup number t s v same h = record { named = h.named; reference = λ r e. h.reference r (sym same ∙ e) }
+
+answered_named : (now place number : ℕ) (setup : SmfSetup) (p : Reply) (o : Option Request) (t : List Move) (s : Session) → unanswered t ≡ unmarked o → is_answer_to place p o ≡ true → IsNamedSession setup number t s
     → IsNamedSession setup number (reply_moves now p o s ++ t) (answered_by now p o s)
 answered_named now place number setup p None t s is final h = h
-answered_named now place number setup p (Some q) t s is final h = replied_named now place number setup p q t s is (and_parts (q.number == place) (is_final_for q.operation p place) final).1 h
+answered_named now place number setup p (Some q) t s is final h =
+    same_moves setup number (reply_moves now p (Some q) s ++ t) (replied now q.stamp p s) (with_peer (latest_peer s) (replied now q.stamp p s)) refl
+    (replied_named now place number setup p q t s is (and_parts (q.number == place) (is_final_for q.operation p place) final).1 h)
 
 -- events
 
@@ -216,27 +229,47 @@ detached_reference : (abnormal : Bool) (moment : ℕ) (s : Session) → (detache
 detached_reference true moment s = refl
 detached_reference false moment s = refl
 
-same_moves : (setup : SmfSetup) (number : ℕ) (t : List Move) (s v : Session) → v.reference ≡ s.reference → IsNamedSession setup number t s → IsNamedSession setup number t v
-same_moves setup number t s v same h = record { named = h.named; reference = λ r e. h.reference r (sym same ∙ e) }
+-- the end of an attempt
+named_by_loss : (setup : SmfSetup) (number : ℕ) → KeptByLoss (IsNamedSession setup number) (λ o. Unit {0})
+named_by_loss setup number = record {
+  sends = λ x t s flies unsent h. same_moves setup number t s (record s { sending = x }) refl h;
+  continues = λ t s h. same_moves setup number t s (record s { groups = map continue_entry s.groups }) refl h;
+  breaks = λ now t s live h. left_named setup number t (closes_all now AbnormalRelease s ++ t) s (without_traffic Aborting now AbnormalRelease s) (closes_names now _ s.holdings t) refl h;
+  gives_up = λ now t s landed unsent asked h.
+      let l : LeavesNames t (closes_all now AbnormalRelease s ++ t) = closes_names now _ s.holdings t in
+      left_named setup number t (GivesUp ∷ (closes_all now AbnormalRelease s ++ t)) s (ended_for NotSentWhy now s) (record { outcome = l.outcome; named = l.named }) refl h;
+}
 
-effect_named : (event : SmfEvent) (setup : SmfSetup) (now number : ℕ) (t : List Move) (s : Session) → touches event s ≡ true → IsNew event s → s.request ≡ unanswered t → IsNamedSession setup number t s
-    → IsNamedSession setup number (effect_moves now event s ++ t) (effect now event s)
+loss_names : (loss : Loss) (t : List Move) → LeavesNames t (loss_move loss ∷ t)
+loss_names Unsent t = record { outcome = refl; named = λ setup number a. a }
+loss_names Unanswered t = record { outcome = refl; named = λ setup number a. a }
+
+lost_named : (setup : SmfSetup) (now number : ℕ) (loss : Loss) (t : List Move) (s : Session) → IsNamedSession setup number t s → IsNamedSession setup number (lost_moves now loss s ++ t) (lost setup now loss s)
+lost_named setup now number loss t s h =
+    lost_kept (IsNamedSession setup number) (λ o. Unit {0}) (named_by_loss setup number) setup now loss t s tt (left_named setup number t (loss_move loss ∷ t) s (with_loss loss s) (loss_names loss t) refl h)
+
+effect_named : (event : SmfEvent) (setup : SmfSetup) (now number : ℕ) (t : List Move) (s : Session) → touches event s ≡ true → IsNew event s → unmarked s.request ≡ unanswered t → IsNamedSession setup number t s
+    → IsNamedSession setup number (effect_moves now event s ++ t) (effect setup now event s)
 effect_named (Attach session subscriber groups moment) setup now number t s on new is h = h
-effect_named (Start session group moment) setup now number t s on new is h = same_moves setup number t s (effect now (Start session group moment) s) refl h
-effect_named (Count session r) setup now number t s on new is h = left_named setup number t _ s (effect now (Count session r) s) (closes_names r.moment _ s.holdings t) refl h
-effect_named (Change session trigger moment) setup now number t s on new is h = left_named setup number t _ s (effect now (Change session trigger moment) s) (closes_names moment _ s.holdings t) refl h
+effect_named (Start session group moment) setup now number t s on new is h = same_moves setup number t s (effect setup now (Start session group moment) s) refl h
+effect_named (Count session r) setup now number t s on new is h = left_named setup number t _ s (effect setup now (Count session r) s) (closes_names r.moment _ s.holdings t) refl h
+effect_named (Change session trigger moment) setup now number t s on new is h = left_named setup number t _ s (effect setup now (Change session trigger moment) s) (closes_names moment _ s.holdings t) refl h
 effect_named (Tick moment) setup now number t s on new is h = h
-effect_named (Detach session abnormal moment) setup now number t s on new is h = left_named setup number t _ s (effect now (Detach session abnormal moment) s) (closes_names moment _ s.holdings t) (detached_reference abnormal moment s) h
+effect_named (Detach session abnormal moment) setup now number t s on new is h = left_named setup number t _ s (effect setup now (Detach session abnormal moment) s) (closes_names moment _ s.holdings t) (detached_reference abnormal moment s) h
 effect_named (Answered session place reply) setup now number t s on new is h = answered_named now place number setup reply s.request t s (sym is) (is_final_answer place reply s (new on)) h
+effect_named (Attempt session peer) setup now number t s on new is h = left_named setup number t (Attempts ∷ t) s (attempted peer s) (record { outcome = refl; named = λ setup number a. a }) refl h
+effect_named (CameUnsent session) setup now number t s on new is h = lost_named setup now number Unsent t s h
+effect_named (CameNoReply session) setup now number t s on new is h = lost_named setup now number Unanswered t s h
+effect_named Restart setup now number t s on new is h = lost_named setup now number Unanswered t s h
 
 abbrev Both : SmfSetup → List Move → Session → Type 0
 Both setup t s = StandsWhole t s × IsNamedSession setup s.number t s
 
 next_by : (b : Bool) (event : SmfEvent) (setup : SmfSetup) (now number : ℕ) (t : List Move) (s : Session) → touches event s ≡ b → IsNew event s → s.number ≡ number → StandsWhole t s → IsNamedSession setup number t s
-    → IsNamedSession setup number (cond b (finish_moves setup now (effect now event s) ++ effect_moves now event s) [] ++ t) (cond b (finished setup now (effect now event s)) s)
+    → IsNamedSession setup number (cond b (finish_moves setup now (effect setup now event s) ++ effect_moves now event s) [] ++ t) (cond b (finished setup now (effect setup now event s)) s)
 next_by true event setup now number t s on new is w h =
-    subst (λ l. IsNamedSession setup number l (finished setup now (effect now event s))) (sym (append_assoc (finish_moves setup now (effect now event s)) (effect_moves now event s) t))
-    (finished_named setup now number (effect_moves now event s ++ t) (effect now event s) (same_effect event now s ∙ is) (effect_named event setup now number t s on new w.0.unanswered h))
+    subst (λ l. IsNamedSession setup number l (finished setup now (effect setup now event s))) (sym (append_assoc (finish_moves setup now (effect setup now event s)) (effect_moves now event s) t))
+    (finished_named setup now number (effect_moves now event s ++ t) (effect setup now event s) (same_effect event setup now s ∙ is) (effect_named event setup now number t s on new w.0.unanswered h))
 next_by false event setup now number t s on new is w h = h
 
 created_named : (setup : SmfSetup) (now number : ℕ) (subscriber groups : List ℕ) (moment : ℕ)
@@ -262,6 +295,10 @@ attached setup now number (Change session trigger moment) = refl
 attached setup now number (Tick moment) = refl
 attached setup now number (Detach session abnormal moment) = refl
 attached setup now number (Answered session place reply) = refl
+attached setup now number (Attempt session peer) = refl
+attached setup now number (CameUnsent session) = refl
+attached setup now number (CameNoReply session) = refl
+attached setup now number Restart = refl
 
 named_kept : (setup : SmfSetup) → IsKept setup (Both setup) moves_of
 named_kept setup = record {

@@ -1,4 +1,13 @@
 -- A session and the reports that were counted, through a reply and a report.
+use Rattle.smf_model.proofs.Losing.{KeptByLoss, lost_kept}
+use Rattle.smf_model.specs.Rounds.{with_loss, continue_entry, lost}
+use Rattle.smf_model.specs.declared.setup.SmfSetup.{SmfSetup}
+use Rattle.smf_model.specs.declared.session.Life.TheVariants.{Aborting}
+use Rattle.smf_model.specs.declared.session.Why.{Why}
+use Rattle.smf_model.specs.declared.session.Loss.TheVariants.{Unsent, Unanswered}
+use Rattle.smf_model.specs.declared.session.Loss.{Loss}
+use Rattle.sessions.specs.Content.{content}
+use Rattle.smf_model.specs.Sending.{unmarked, latest_peer, with_peer}
 use Rattle.std.proofs.Common.{◌≡◌, ℕ, ◌+◌, ◌==◌, ◌&&◌, ◌||◌, Bool, true, false, cond, List, [], ◌∷◌, ◌++◌, length, map, refl, sym, ◌∙◌, ap, subst, arith, append-nil, length-append}
 use Rattle.std.specs.Prelude.{Option, Some, None, is_some}
 use Rattle.std.specs.List.{list_any}
@@ -19,23 +28,23 @@ use Rattle.meter.specs.Joining.{may_join, trigger_of}
 use Rattle.meter.specs.Laws.{ReportsKeepCuts}
 use Rattle.quotas.specs.Quota.{used}
 use Rattle.sessions.specs.Trace.{Move}
-use Rattle.sessions.specs.Trace.Move.{Answers}
-use Rattle.smf_model.specs.declared.session.Why.TheVariants.{Refused as WasRefused}
+use Rattle.sessions.specs.Trace.Move.{Answers, GivesUp}
+use Rattle.smf_model.specs.declared.session.Why.TheVariants.{Refused as WasRefused, NotSent as WasNotSent}
 use Rattle.smf_model.specs.declared.session.Place.TheVariants.{Answered as AnsweredPlace, GivenUp}
 use Rattle.smf_model.specs.declared.session.Holding.{Holding}
 use Rattle.smf_model.specs.declared.session.Entry.{Entry}
 use Rattle.smf_model.specs.declared.session.Session.{Session}
 use Rattle.smf_model.specs.Settle.{is_open, is_waiting, is_frozen, is_open_of, open_of, entry_of, close}
-use Rattle.smf_model.specs.Traffic.{horizon_in, closes_before, close_of, extend_of, first_of, joined, count_entry, counted, close_any, give_up}
+use Rattle.smf_model.specs.Traffic.{horizon_in, closes_before, close_of, extend_of, first_of, joined, count_entry, counted, close_any, give_up, without_traffic, ended_for}
 use Rattle.smf_model.specs.Replies.{answer_holding, info_of, horizon_after, answer_entry, replied, answered_by}
 use Rattle.smf_model.specs.Machine.{expected_in, expected_of}
-use Rattle.smf_model.specs.Trace.{closes_of, closes_all, ending_moves, reply_moves, unanswered}
+use Rattle.smf_model.specs.Trace.{closes_of, closes_all, ending_moves, reply_moves, unanswered, loss_move, lost_moves}
 use Rattle.smf_model.specs.Reports.{in_order, AreCountedFrom}
 use Rattle.smf_model.specs.GivenHorizons.{units_in, horizon_given, horizons_in, AreAllowed}
 use Rattle.smf_model.proofs.Effects.{swapped}
 use Rattle.smf_model.proofs.Lookups.{entry_then, found_mapped, found_group}
-use Rattle.smf_model.proofs.Lasts.{AreSame, same_mapped, same_containers, own, OpenAreLast, last_same, Joins, joins, joins_other, last_extended, opens, opens_other, last_pushed}
-use Rattle.smf_model.proofs.Reported.{Reported, IsQuiet, quiet, closes_horizons, shut_quiet, shut_if, close_same}
+use Rattle.smf_model.proofs.Lasts.{AreSame, same_mapped, same_containers, own, OpenAreLast, last_same, Joins, joins, joins_other, last_extended, opens, opens_other, last_pushed, same_self}
+use Rattle.smf_model.proofs.Reported.{Reported, IsQuiet, quiet, closes_horizons, shut_quiet, shut_if, close_same, continued_quiet}
 
 -- a success: horizons
 
@@ -72,8 +81,8 @@ answered_expected stamp units (Some e) = refl
 answer_same : (h : Holding) → ((answer_holding h).container ≡ h.container) × (is_open (answer_holding h).place ≡ true → is_open h.place ≡ true)
 answer_same h = shut_if (is_frozen h.place) (record h { place = AnsweredPlace }) h refl (λ e. cc)
 
-give_same : (h : Holding) → ((give_up WasRefused h).container ≡ h.container) × (is_open (give_up WasRefused h).place ≡ true → is_open h.place ≡ true)
-give_same h = shut_if (is_waiting h.place || is_frozen h.place) (record h { place = GivenUp WasRefused }) h refl (λ e. cc)
+give_same : (why : Why) (h : Holding) → ((give_up why h).container ≡ h.container) × (is_open (give_up why h).place ≡ true → is_open h.place ≡ true)
+give_same why h = shut_if (is_waiting h.place || is_frozen h.place) (record h { place = GivenUp why }) h refl (λ e. cc)
 
 succeeded_reported : (p : Reply) (q : Request) (t : List Move) (u : List Report) (s v : Session) → unanswered t ≡ Some q → v.holdings ≡ map answer_holding s.holdings → v.groups ≡ map (answer_entry q.stamp (units_in p)) s.groups
     → Reported t u s → Reported (Answers p ∷ t) u v
@@ -112,9 +121,9 @@ over_quiet p t s v none groups holdings = record {
 shut_then : (now : ℕ) (s : Session) (f : Holding → Holding) → ((h : Holding) → ((f h).container ≡ h.container) × (is_open (f h).place ≡ true → is_open h.place ≡ true)) → AreSame (map (close_any now AbnormalRelease) s.holdings) (map f (map (close_any now AbnormalRelease) s.holdings))
 shut_then now s f each = same_mapped f (map (close_any now AbnormalRelease) s.holdings) each
 
-replied_reported : (now : ℕ) (p : Reply) (q : Request) (t : List Move) (u : List Report) (s : Session) → unanswered t ≡ Some q → Reported t u s → Reported (Answers p ∷ (ending_moves now p s ++ t)) u (replied now q.stamp p s)
-replied_reported now (Created reference answer) q t u s is h = succeeded_reported (Created reference answer) q t u s (replied now q.stamp (Created reference answer) s) is refl refl h
-replied_reported now (Updated answer) q t u s is h = succeeded_reported (Updated answer) q t u s (replied now q.stamp (Updated answer) s) is refl refl h
+replied_reported : (now : ℕ) (p : Reply) (q : Request) (t : List Move) (u : List Report) (s : Session) → unanswered t ≡ Some (content q) → Reported t u s → Reported (Answers p ∷ (ending_moves now p s ++ t)) u (replied now q.stamp p s)
+replied_reported now (Created reference answer) q t u s is h = succeeded_reported (Created reference answer) (content q) t u s (replied now q.stamp (Created reference answer) s) is refl refl h
+replied_reported now (Updated answer) q t u s is h = succeeded_reported (Updated answer) (content q) t u s (replied now q.stamp (Updated answer) s) is refl refl h
 replied_reported now Released q t u s is h =
     let done : Session = record s { holdings = map answer_holding s.holdings } in
     let shut : Session = record s { holdings = map (close_any now AbnormalRelease) s.holdings } in
@@ -126,11 +135,35 @@ replied_reported now (Refused problem) q t u s is h =
     let shut : Session = record s { holdings = map (close_any now AbnormalRelease) s.holdings } in
     let k : Reported (closes_all now AbnormalRelease s ++ t) u shut = quiet t (closes_all now AbnormalRelease s ++ t) u s shut (shut_quiet now AbnormalRelease t s shut refl refl) h in
     quiet (closes_all now AbnormalRelease s ++ t) (Answers (Refused problem) ∷ (closes_all now AbnormalRelease s ++ t)) u shut (replied now q.stamp (Refused problem) s)
-    (over_quiet (Refused problem) (closes_all now AbnormalRelease s ++ t) shut (replied now q.stamp (Refused problem) s) refl refl (shut_then now s (give_up WasRefused) give_same)) k
+    (over_quiet (Refused problem) (closes_all now AbnormalRelease s ++ t) shut (replied now q.stamp (Refused problem) s) refl refl (shut_then now s (give_up WasRefused) (give_same WasRefused))) k
 
-pub answered_reported : (now : ℕ) (p : Reply) (o : Option Request) (t : List Move) (u : List Report) (s : Session) → unanswered t ≡ o → Reported t u s → Reported (reply_moves now p o s ++ t) u (answered_by now p o s)
+pub answered_reported : (now : ℕ) (p : Reply) (o : Option Request) (t : List Move) (u : List Report) (s : Session) → unanswered t ≡ unmarked o → Reported t u s → Reported (reply_moves now p o s ++ t) u (answered_by now p o s)
 answered_reported now p None t u s is h = h
-answered_reported now p (Some q) t u s is h = replied_reported now p q t u s is h
+answered_reported now p (Some q) t u s is h =
+    let r : Session = replied now q.stamp p s in
+    let m : List Move = reply_moves now p (Some q) s ++ t in
+    quiet m m u r (with_peer (latest_peer s) r) (record { holdings = same_self r.holdings; expected = λ group. refl; horizon = λ group. refl; horizons = λ group. refl }) (replied_reported now p q t u s is h)
+
+-- the end of an attempt
+reported_by_loss : (u : List Report) → KeptByLoss (λ t s. Reported t u s) (λ o. Unit {0})
+reported_by_loss u = record {
+  sends = λ x t s flies unsent h. quiet t t u s (record s { sending = x }) (record { holdings = same_self s.holdings; expected = λ group. refl; horizon = λ group. refl; horizons = λ group. refl }) h;
+  continues = λ t s h. quiet t t u s (record s { groups = map continue_entry s.groups }) (continued_quiet t s) h;
+  breaks = λ now t s live h. quiet t (closes_all now AbnormalRelease s ++ t) u s (without_traffic Aborting now AbnormalRelease s) (shut_quiet now AbnormalRelease t s (without_traffic Aborting now AbnormalRelease s) refl refl) h;
+  gives_up = λ now t s landed unsent asked h.
+      let shut : Session = record s { holdings = map (close_any now AbnormalRelease) s.holdings } in
+      let c : List Move = closes_all now AbnormalRelease s ++ t in
+      let k : Reported c u shut = quiet t c u s shut (shut_quiet now AbnormalRelease t s shut refl refl) h in
+      quiet c (GivesUp ∷ c) u shut (ended_for WasNotSent now s) (record { holdings = shut_then now s (give_up WasNotSent) (give_same WasNotSent); expected = λ group. refl; horizon = λ group. refl; horizons = λ group. refl }) k;
+}
+
+loss_quiet : (loss : Loss) (t : List Move) (s : Session) → IsQuiet t s (loss_move loss ∷ t) (with_loss loss s)
+loss_quiet Unsent t s = record { holdings = same_self s.holdings; expected = λ group. refl; horizon = λ group. refl; horizons = λ group. refl }
+loss_quiet Unanswered t s = record { holdings = same_self s.holdings; expected = λ group. refl; horizon = λ group. refl; horizons = λ group. refl }
+
+pub lost_reported : (setup : SmfSetup) (now : ℕ) (loss : Loss) (t : List Move) (u : List Report) (s : Session) → Reported t u s → Reported (lost_moves now loss s ++ t) u (lost setup now loss s)
+lost_reported setup now loss t u s h =
+    lost_kept (λ x v. Reported x u v) (λ o. Unit {0}) (reported_by_loss u) setup now loss t s tt (quiet t (loss_move loss ∷ t) u s (with_loss loss s) (loss_quiet loss t s) h)
 
 -- a report
 

@@ -1,4 +1,5 @@
 -- A session and the reports that were counted, through each part of an event.
+use Rattle.smf_model.specs.Rounds.{continue_entry}
 use Rattle.std.proofs.Common.{◌≡◌, ℕ, ◌+◌, ◌-◌, ◌&&◌, nat_lt, Bool, true, false, cond, List, [], ◌∷◌, ◌++◌, length, map, fold, refl, sym, ◌∙◌, ap, subst, append_assoc}
 use Rattle.std.specs.Prelude.{Option, Some, None}
 use Rattle.units.specs.declared.report.Report.{Report}
@@ -119,6 +120,14 @@ asking_quiet setup now o t s = record {
   holdings = same_moved 500 Frozen s.holdings refl;
   expected = λ group. read_mapped expected_in freeze_entry s.groups group (λ e. refl) (expected_then freeze_entry (λ e. refl));
   horizon = λ group. read_mapped horizon_in freeze_entry s.groups group (λ e. refl) (horizon_then freeze_entry (λ e. refl));
+  horizons = λ group. refl;
+}
+
+pub continued_quiet : (t : List Move) (s : Session) → IsQuiet t s t (record s { groups = map continue_entry s.groups })
+continued_quiet t s = record {
+  holdings = same_self s.holdings;
+  expected = λ group. read_mapped expected_in continue_entry s.groups group (λ e. refl) (expected_then continue_entry (λ e. refl));
+  horizon = λ group. read_mapped horizon_in continue_entry s.groups group (λ e. refl) (horizon_then continue_entry (λ e. refl));
   horizons = λ group. refl;
 }
 

@@ -10,19 +10,23 @@ use Rattle.units.specs.declared.reply.Reply.TheVariants.{Created, Updated, Relea
 use Rattle.sessions.specs.Trace.{Move}
 use Rattle.smf_model.specs.declared.setup.SmfSetup.{SmfSetup}
 use Rattle.smf_model.specs.declared.session.Life.TheVariants.{Ending, Aborting}
+use Rattle.smf_model.specs.declared.session.Loss.{Loss}
+use Rattle.smf_model.specs.declared.session.Loss.TheVariants.{Unsent, Unanswered}
 use Rattle.smf_model.specs.declared.session.Session.{Session}
 use Rattle.smf_model.specs.declared.session.Machine.{Machine}
 use Rattle.smf_model.specs.declared.event.SmfEvent.{SmfEvent}
-use Rattle.smf_model.specs.declared.event.SmfEvent.TheVariants.{Attach, Start, Count, Change, Tick, Detach, Answered}
+use Rattle.smf_model.specs.declared.event.SmfEvent.TheVariants.{Attach, Start, Count, Change, Tick, Detach, Answered, Attempt, NotSent, NoReply, Restart}
 use Rattle.smf_model.specs.declared.refusal.Seen.{Seen}
 use Rattle.smf_model.specs.declared.refusal.Seen.TheVariants.{New, Known}
 use Rattle.smf_model.specs.declared.refusal.SmfRefusal.{SmfRefusal}
 use Rattle.smf_model.specs.Settle.{settled}
 use Rattle.smf_model.specs.Freeze.{with_request, freeze_by, next_operation}
 use Rattle.smf_model.specs.Traffic.{without_traffic}
+use Rattle.smf_model.specs.Rounds.{lost}
 use Rattle.smf_model.specs.Replies.{answered_by}
 use Rattle.smf_model.specs.Machine.{machine_after, answer_of, after_answer, now_after, next_session, session_of, added_by, fresh, finished, touches, effect}
 use Rattle.smf_model.specs.Trace.{Agrees, AgreesWith, trace, moves_of, moves_if, added_moves}
+use Rattle.smf_model.proofs.Losing.{KeptByLoss, lost_kept}
 use Rattle.smf_model.proofs.Agreement.{next_agrees, finished_agrees, with_request_agrees}
 
 same_cond : (b : Bool) (x y : Session) (n : ℕ) → x.number ≡ n → y.number ≡ n → (cond b x y).number ≡ n
@@ -43,18 +47,33 @@ same_answered now (Updated answer) (Some q) s = refl
 same_answered now Released (Some q) s = refl
 same_answered now (Refused problem) (Some q) s = refl
 
-pub same_effect : (event : SmfEvent) (now : ℕ) (s : Session) → (effect now event s).number ≡ s.number
-same_effect (Attach session subscriber groups moment) now s = refl
-same_effect (Start session group moment) now s = refl
-same_effect (Count session r) now s = refl
-same_effect (Change session trigger moment) now s = refl
-same_effect (Tick moment) now s = refl
-same_effect (Detach session abnormal moment) now s = same_cond abnormal (without_traffic Aborting moment AbnormalRelease s) (without_traffic Ending moment Final s) s.number refl refl
-same_effect (Answered session number reply) now s = same_answered now reply s.request s
+number_by_loss : (number : ℕ) → KeptByLoss (λ t s. s.number ≡ number) (λ o. Unit {0})
+number_by_loss number = record {
+  sends = λ x t s flies unsent h. h;
+  continues = λ t s h. h;
+  breaks = λ now t s live h. h;
+  gives_up = λ now t s landed unsent asked h. h;
+}
+
+same_lost : (setup : SmfSetup) (now : ℕ) (loss : Loss) (s : Session) → (lost setup now loss s).number ≡ s.number
+same_lost setup now loss s = lost_kept (λ t x. x.number ≡ s.number) (λ o. Unit {0}) (number_by_loss s.number) setup now loss [] s tt refl
+
+pub same_effect : (event : SmfEvent) (setup : SmfSetup) (now : ℕ) (s : Session) → (effect setup now event s).number ≡ s.number
+same_effect (Attach session subscriber groups moment) setup now s = refl
+same_effect (Start session group moment) setup now s = refl
+same_effect (Count session r) setup now s = refl
+same_effect (Change session trigger moment) setup now s = refl
+same_effect (Tick moment) setup now s = refl
+same_effect (Detach session abnormal moment) setup now s = same_cond abnormal (without_traffic Aborting moment AbnormalRelease s) (without_traffic Ending moment Final s) s.number refl refl
+same_effect (Answered session number reply) setup now s = same_answered now reply s.request s
+same_effect (Attempt session peer) setup now s = refl
+same_effect (NotSent session) setup now s = same_lost setup now Unsent s
+same_effect (NoReply session) setup now s = same_lost setup now Unanswered s
+same_effect Restart setup now s = same_lost setup now Unanswered s
 
 -- a step keeps each session's number
 pub number-next : (event : SmfEvent) (setup : SmfSetup) (now : ℕ) (s : Session) → (next_session setup now event s).number ≡ s.number
-number-next event setup now s = same_cond (touches event s) _ _ s.number (same_finished setup now (effect now event s) ∙ same_effect event now s) refl
+number-next event setup now s = same_cond (touches event s) _ _ s.number (same_finished setup now (effect setup now event s) ∙ same_effect event setup now s) refl
 
 found_at : (b : Bool) (t : List Move) (moves : Option Session → List Move) (x y : Session) (rest others : Option Session)
     → AgreesWith t (cond b (Some x) rest) → (Agrees t x → Agrees (moves (Some x) ++ t) y) → (AgreesWith t rest → AgreesWith (moves rest ++ t) others)
@@ -90,6 +109,10 @@ attached setup now number (Change session trigger moment) = refl
 attached setup now number (Tick moment) = refl
 attached setup now number (Detach session abnormal moment) = refl
 attached setup now number (Answered session n reply) = refl
+attached setup now number (Attempt session peer) = refl
+attached setup now number (NotSent session) = refl
+attached setup now number (NoReply session) = refl
+attached setup now number Restart = refl
 
 run_by : (r : Result Seen SmfRefusal) (m : Machine) (event : SmfEvent) (number : ℕ) (t : List Move) → AgreesWith t (session_of number m.sessions)
     → AgreesWith (moves_if m number event r ++ t) (session_of number (after_answer m event r).sessions)

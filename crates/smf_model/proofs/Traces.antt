@@ -8,10 +8,11 @@ use Rattle.sessions.specs.Trace.{Move, IsTrace}
 use Rattle.sessions.specs.Trace.Move.{Freezes}
 use Rattle.smf_model.specs.declared.setup.SmfSetup.{SmfSetup}
 use Rattle.smf_model.specs.declared.session.Holding.{Holding}
+use Rattle.smf_model.specs.declared.session.Loss.TheVariants.{Unsent, Unanswered}
 use Rattle.smf_model.specs.declared.session.Session.{Session}
 use Rattle.smf_model.specs.declared.session.Machine.{Machine}
 use Rattle.smf_model.specs.declared.event.SmfEvent.{SmfEvent}
-use Rattle.smf_model.specs.declared.event.SmfEvent.TheVariants.{Attach, Start, Count, Change, Tick, Detach, Answered}
+use Rattle.smf_model.specs.declared.event.SmfEvent.TheVariants.{Attach, Start, Count, Change, Tick, Detach, Answered, Attempt, NotSent, NoReply, Restart}
 use Rattle.smf_model.specs.declared.refusal.Seen.{Seen}
 use Rattle.smf_model.specs.declared.refusal.Seen.TheVariants.{New, Known}
 use Rattle.smf_model.specs.declared.refusal.SmfRefusal.{SmfRefusal}
@@ -26,53 +27,64 @@ use Rattle.smf_model.specs.Places.{IsAsMoved, StandsAsMoved}
 use Rattle.smf_model.proofs.Runs.{number-next}
 use Rattle.smf_model.proofs.Lifting.{IsNew, With, IsKept, over_all}
 use Rattle.smf_model.proofs.Placed.{IsAt}
-use Rattle.smf_model.proofs.Entries.{HasEntries, settled_entries, asking_entries, finished_entries, answered_entries, detached_entries, changed_entries, counted_entries, started_entries, apart_all}
+use Rattle.smf_model.proofs.Entries.{HasEntries, settled_entries, asking_entries, finished_entries, answered_entries, detached_entries, lost_entries, attempted_entries, changed_entries, counted_entries, started_entries, apart_all}
 use Rattle.smf_model.proofs.Held.{Stands, same_stands, any_stands, asking_stands, finished_stands}
+use Rattle.smf_model.proofs.Sends.{Sends, asking_sends, finished_sends, effect_sends}
+use Rattle.smf_model.proofs.Losses.{attempted_stands, lost_stands}
 use Rattle.smf_model.proofs.Effects.{IsCounted, is_counted, counted_stands, detached_stands, answered_stands}
 
-effect_entries : (event : SmfEvent) (now : ℕ) (s : Session) → touches event s ≡ true → IsNew event s → HasEntries s → HasEntries (effect now event s)
-effect_entries (Attach session subscriber groups moment) now s on new h = h
-effect_entries (Start session group moment) now s on new h = started_entries group s (started group moment s) refl refl h
-effect_entries (Count session r) now s on new h =
+effect_entries : (event : SmfEvent) (setup : SmfSetup) (now : ℕ) (s : Session) → touches event s ≡ true → IsNew event s → HasEntries s → HasEntries (effect setup now event s)
+effect_entries (Attach session subscriber groups moment) setup now s on new h = h
+effect_entries (Start session group moment) setup now s on new h = started_entries group s (started group moment s) refl refl h
+effect_entries (Count session r) setup now s on new h =
     let is : IsCounted r s = is_counted r s (new on) in
     counted_entries r (closes_before (horizon_in (entry_of r.group s.groups)) r (open_of r.group s.holdings)) s is.entry is.found h
-effect_entries (Change session trigger moment) now s on new h = changed_entries trigger moment s (changed trigger moment s) refl refl h
-effect_entries (Tick moment) now s on new h = h
-effect_entries (Detach session abnormal moment) now s on new h = detached_entries abnormal moment s h
-effect_entries (Answered session number reply) now s on new h = answered_entries now reply s.request s h
+effect_entries (Change session trigger moment) setup now s on new h = changed_entries trigger moment s (changed trigger moment s) refl refl h
+effect_entries (Tick moment) setup now s on new h = h
+effect_entries (Detach session abnormal moment) setup now s on new h = detached_entries abnormal moment s h
+effect_entries (Answered session number reply) setup now s on new h = answered_entries now reply s.request s h
+effect_entries (Attempt session peer) setup now s on new h = attempted_entries peer s h
+effect_entries (NotSent session) setup now s on new h = lost_entries setup now Unsent s h
+effect_entries (NoReply session) setup now s on new h = lost_entries setup now Unanswered s h
+effect_entries Restart setup now s on new h = lost_entries setup now Unanswered s h
 
-effect_stands : (event : SmfEvent) (now : ℕ) (t : List Move) (s : Session) → touches event s ≡ true → IsNew event s → Stands t s → Stands (effect_moves now event s ++ t) (effect now event s)
-effect_stands (Attach session subscriber groups moment) now t s on new h = h
-effect_stands (Start session group moment) now t s on new h = same_stands t s (started group moment s) refl refl refl (λ e. e) h
-effect_stands (Count session r) now t s on new h = counted_stands r t s (is_counted r s (new on)).live h
-effect_stands (Change session trigger moment) now t s on new h = any_stands moment trigger t s (changed trigger moment s) refl refl refl (λ e. e) h
-effect_stands (Tick moment) now t s on new h = h
-effect_stands (Detach session abnormal moment) now t s on new h = detached_stands abnormal moment t s (and_parts (s.number == session) (is_live s.life) on).1 h
-effect_stands (Answered session number reply) now t s on new h = answered_stands now number reply t s (new on) h
+effect_stands : (event : SmfEvent) (setup : SmfSetup) (now : ℕ) (t : List Move) (s : Session) → touches event s ≡ true → IsNew event s → Sends t s → Stands t s → Stands (effect_moves now event s ++ t) (effect setup now event s)
+effect_stands (Attach session subscriber groups moment) setup now t s on new w h = h
+effect_stands (Start session group moment) setup now t s on new w h = same_stands t s (started group moment s) refl refl refl (λ e. e) h
+effect_stands (Count session r) setup now t s on new w h = counted_stands r t s (is_counted r s (new on)).live h
+effect_stands (Change session trigger moment) setup now t s on new w h = any_stands moment trigger t s (changed trigger moment s) refl refl refl (λ e. e) h
+effect_stands (Tick moment) setup now t s on new w h = h
+effect_stands (Detach session abnormal moment) setup now t s on new w h = detached_stands abnormal moment t s (and_parts (s.number == session) (is_live s.life) on).1 h
+effect_stands (Answered session number reply) setup now t s on new w h = answered_stands now number reply t s (new on) h
+effect_stands (Attempt session peer) setup now t s on new w h = attempted_stands peer t s (new on).0 (new on).1 w h
+effect_stands (NotSent session) setup now t s on new w h = lost_stands setup now Unsent t s (new on) (h, w)
+effect_stands (NoReply session) setup now t s on new w h = lost_stands setup now Unanswered t s (new on) (h, w)
+effect_stands Restart setup now t s on new w h = lost_stands setup now Unanswered t s on (h, w)
 
--- a session with its entries stands by its moves
+-- a session with its entries, and so far as its sending is, stands by its moves
 abbrev pub StandsWhole : List Move → Session → Type 0
-StandsWhole t s = Stands t s × HasEntries s
+StandsWhole t s = Stands t s × HasEntries s × Sends t s
 
 finished_whole : (setup : SmfSetup) (now : ℕ) (t : List Move) (s : Session) → StandsWhole t s → StandsWhole (finish_moves setup now s ++ t) (finished setup now s)
 finished_whole setup now t s h =
     let settled_too : HasEntries (settled setup now s) = settled_entries setup now s h.1 in
-    (finished_stands setup now t s settled_too.apart settled_too.entered h.0, finished_entries setup now s h.1)
+    (finished_stands setup now t s settled_too.apart settled_too.entered h.0, finished_entries setup now s h.1, finished_sends setup now t s h.2)
 
-pub effect_whole : (event : SmfEvent) (now : ℕ) (t : List Move) (s : Session) → touches event s ≡ true → IsNew event s → StandsWhole t s → StandsWhole (effect_moves now event s ++ t) (effect now event s)
-effect_whole event now t s on new h = (effect_stands event now t s on new h.0, effect_entries event now s on new h.1)
+pub effect_whole : (event : SmfEvent) (setup : SmfSetup) (now : ℕ) (t : List Move) (s : Session) → touches event s ≡ true → IsNew event s → StandsWhole t s → StandsWhole (effect_moves now event s ++ t) (effect setup now event s)
+effect_whole event setup now t s on new h = (effect_stands event setup now t s on new h.2 h.0, effect_entries event setup now s on new h.1, effect_sends event setup now t s on new h.2)
 
 next_by : (b : Bool) (event : SmfEvent) (setup : SmfSetup) (now : ℕ) (t : List Move) (s : Session) → touches event s ≡ b → IsNew event s → StandsWhole t s
-    → StandsWhole (cond b (finish_moves setup now (effect now event s) ++ effect_moves now event s) [] ++ t) (cond b (finished setup now (effect now event s)) s)
+    → StandsWhole (cond b (finish_moves setup now (effect setup now event s) ++ effect_moves now event s) [] ++ t) (cond b (finished setup now (effect setup now event s)) s)
 next_by true event setup now t s on new h =
-    subst (λ l. StandsWhole l (finished setup now (effect now event s))) (sym (append_assoc (finish_moves setup now (effect now event s)) (effect_moves now event s) t))
-    (finished_whole setup now (effect_moves now event s ++ t) (effect now event s) (effect_whole event now t s on new h))
+    subst (λ l. StandsWhole l (finished setup now (effect setup now event s))) (sym (append_assoc (finish_moves setup now (effect setup now event s)) (effect_moves now event s) t))
+    (finished_whole setup now (effect_moves now event s ++ t) (effect setup now event s) (effect_whole event setup now t s on new h))
 next_by false event setup now t s on new h = h
 
 pub fresh_whole : (setup : SmfSetup) (number : ℕ) (subscriber groups : List ℕ) (moment : ℕ) → StandsWhole [] (fresh setup number subscriber groups moment)
 fresh_whole setup number subscriber groups moment = (
   record { valid = tt; numbered = tt; each = tt; beyond = λ lsn l. refl; count = refl; unanswered = refl; asked = λ e. cc; idle = λ e on. refl },
   record { apart = apart_all groups [] (λ g. omega arith); entered = tt },
+  record { flight = refl; unsent = λ e. cc; asked = λ e. cc },
 )
 
 pub created_whole : (setup : SmfSetup) (now number : ℕ) (subscriber groups : List ℕ) (moment : ℕ)
@@ -81,7 +93,7 @@ created_whole setup now number subscriber groups moment =
     let s : Session = fresh setup number subscriber groups moment in
     let h : StandsWhole [] s = fresh_whole setup number subscriber groups moment in
     finished_whole setup now (Freezes (request_of setup now s Create) ∷ []) (with_request setup now Create s)
-    (asking_stands setup now Create [] s refl h.1.apart h.1.entered h.0, asking_entries setup now Create s h.1)
+    (asking_stands setup now Create [] s refl h.1.apart h.1.entered h.0, asking_entries setup now Create s h.1, asking_sends setup now Create [] s)
 
 attached_at : (b : Bool) (m : List Move) (s : Session) → StandsWhole m s → With StandsWhole (cond b m [] ++ []) (cond b (Some s) None)
 attached_at true m s h = subst (λ l. StandsWhole l s) (sym (append-nil m)) h
@@ -99,6 +111,10 @@ attached setup now number (Change session trigger moment) = refl
 attached setup now number (Tick moment) = refl
 attached setup now number (Detach session abnormal moment) = refl
 attached setup now number (Answered session place reply) = refl
+attached setup now number (Attempt session peer) = refl
+attached setup now number (NotSent session) = refl
+attached setup now number (NoReply session) = refl
+attached setup now number Restart = refl
 
 pub kept : (setup : SmfSetup) → IsKept setup StandsWhole moves_of
 kept setup = record {

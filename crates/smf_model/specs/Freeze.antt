@@ -22,6 +22,7 @@ use Rattle.smf_model.specs.declared.session.Entry.{Entry}
 use Rattle.smf_model.specs.declared.session.Session.{Session}
 use Rattle.units.specs.Words.{name_of_type}
 use Rattle.smf_model.specs.Rules.{changes_of}
+use Rattle.smf_model.specs.Sending.{at_rest}
 use Rattle.smf_model.specs.Settle.{is_waiting, is_frozen}
 
 -- how many containers wait
@@ -139,6 +140,7 @@ with_request setup now operation s = record s {
   groups = map freeze_entry s.groups;
   holdings = move_oldest 500 Frozen s.holdings;
   request = Some (request_of setup now s operation);
+  sending = at_rest;
 }
 
 -- the session with the request of this operation, where one is due

@@ -2,7 +2,9 @@ pub mod Categories
 pub mod Rules
 pub mod Settle
 pub mod Freeze
+pub mod Sending
 pub mod Traffic
+pub mod Rounds
 pub mod Replies
 pub mod Machine
 pub mod Trace

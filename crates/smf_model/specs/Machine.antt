@@ -1,6 +1,6 @@
 -- The machine: its answer to each event, in the order of its checks, and the step that a new event is (TS 32.255, 5.2.1; TS 32.290, 5.3.2).
 use Rattle.std.specs.Prelude.{ℕ, ◌^◌, ◌==◌, ◌&&◌, ◌||◌, not, nat_lt, nat_le, Bool, true, false, if◌then◌else◌, max, Option, Some, None, List, [], ◌∷◌, ◌++◌, map, fold, length, Result, Ok, Err}
-use Rattle.std.specs.List.{find}
+use Rattle.std.specs.List.{find, list_any}
 use Rattle.units.specs.declared.report.Report.{Report}
 use Rattle.units.specs.declared.reply.Reply.{Reply}
 use Rattle.units.specs.declared.request.Operation.TheVariants.{Create}
@@ -12,11 +12,14 @@ use Rattle.quotas.specs.Quota.{is_asked, gate_of}
 use Rattle.smf_model.specs.declared.setup.SmfSetup.{SmfSetup}
 use Rattle.smf_model.specs.declared.session.Life.{Life}
 use Rattle.smf_model.specs.declared.session.Life.TheVariants.{Live, Ended}
+use Rattle.smf_model.specs.declared.session.Peer.{Peer}
+use Rattle.smf_model.specs.declared.session.Peer.TheVariants.{Primary}
+use Rattle.smf_model.specs.declared.session.Loss.TheVariants.{Unsent, Unanswered}
 use Rattle.smf_model.specs.declared.session.Entry.{Entry}
 use Rattle.smf_model.specs.declared.session.Session.{Session}
 use Rattle.smf_model.specs.declared.session.Machine.{Machine}
 use Rattle.smf_model.specs.declared.event.SmfEvent.{SmfEvent}
-use Rattle.smf_model.specs.declared.event.SmfEvent.TheVariants.{Attach, Start, Count, Change, Tick, Detach, Answered}
+use Rattle.smf_model.specs.declared.event.SmfEvent.TheVariants.{Attach, Start, Count, Change, Tick, Detach, Answered, Attempt, NotSent, NoReply, Restart}
 use Rattle.smf_model.specs.declared.refusal.Seen.{Seen}
 use Rattle.smf_model.specs.declared.refusal.Seen.TheVariants.{New, Known}
 use Rattle.smf_model.specs.declared.refusal.SmfRefusal.{SmfRefusal}
@@ -24,6 +27,8 @@ use Rattle.smf_model.specs.declared.refusal.SmfRefusal.TheVariants.{NoSession, S
 use Rattle.smf_model.specs.Settle.{entry_of, settled}
 use Rattle.smf_model.specs.Freeze.{with_request, freeze_due, dropped}
 use Rattle.smf_model.specs.Traffic.{with_asked, counted, started, changed, detached}
+use Rattle.smf_model.specs.Sending.{at_rest, may_send, send_of, is_send, attempted}
+use Rattle.smf_model.specs.Rounds.{lost}
 use Rattle.smf_model.specs.Replies.{is_answer_to, answered_by}
 
 -- a session
@@ -113,6 +118,26 @@ detach_answer moment s =
 abbrev pub reply_answer : ℕ → Reply → Session → Result Seen SmfRefusal
 reply_answer number reply s = if not (is_ended s.life) && is_answer_to number reply s.request then Ok New else Ok Known
 
+-- an attempt of a session that may send, and is the next to send, to this peer
+abbrev pub attempt_by : ℕ → Option (ℕ × Peer) → Peer → Session → Result Seen SmfRefusal
+attempt_by now next peer s = if may_send now s && is_send s.number peer next then Ok New else Ok Known
+
+-- where that is what sends next
+abbrev pub attempt_answer : ℕ → List Session → Peer → Session → Result Seen SmfRefusal
+attempt_answer now sessions peer s = attempt_by now (send_of now sessions) peer s
+
+-- an end of the attempt in flight
+abbrev pub loss_answer : Session → Result Seen SmfRefusal
+loss_answer s = if s.sending.in_flight then Ok New else Ok Known
+
+-- some attempt is in flight
+abbrev pub any_flies : List Session → Bool
+any_flies sessions = list_any (λ s. s.sending.in_flight) sessions
+
+-- a restart, where an attempt is in flight
+abbrev pub restart_answer : Bool → Result Seen SmfRefusal
+restart_answer flies = if flies then Ok New else Ok Known
+
 -- there is a session of this number
 abbrev pub on_session : Option Session → (Session → Result Seen SmfRefusal) → Result Seen SmfRefusal
 on_session None answer = Err NoSession
@@ -132,6 +157,10 @@ answer_in now sessions (Change session trigger moment) = on_session (session_of 
 answer_in now sessions (Tick moment) = if nat_lt moment now then Err (MomentBack now) else Ok New
 answer_in now sessions (Detach session abnormal moment) = on_session (session_of session sessions) (detach_answer moment)
 answer_in now sessions (Answered session number reply) = on_session (session_of session sessions) (reply_answer number reply)
+answer_in now sessions (Attempt session peer) = on_session (session_of session sessions) (attempt_answer now sessions peer)
+answer_in now sessions (NotSent session) = on_session (session_of session sessions) loss_answer
+answer_in now sessions (NoReply session) = on_session (session_of session sessions) loss_answer
+answer_in now sessions Restart = restart_answer (any_flies sessions)
 
 -- the answer of a machine to an event
 abbrev pub answer_of : Machine → SmfEvent → Result Seen SmfRefusal
@@ -146,8 +175,12 @@ now_after now (Change session trigger moment) = max now moment
 now_after now (Tick moment) = max now moment
 now_after now (Detach session abnormal moment) = max now moment
 now_after now (Answered session number reply) = now
+now_after now (Attempt session peer) = now
+now_after now (NotSent session) = now
+now_after now (NoReply session) = now
+now_after now Restart = now
 
--- the sessions that an event touches: its own, which a detach finds live, and a tick all of them
+-- the sessions that an event touches: its own, which a detach finds live; a tick all of them; a restart those with an attempt in flight
 abbrev pub touches : SmfEvent → Session → Bool
 touches (Attach session subscriber groups moment) s = false
 touches (Start session group moment) s = s.number == session
@@ -156,16 +189,24 @@ touches (Change session trigger moment) s = s.number == session
 touches (Tick moment) s = true
 touches (Detach session abnormal moment) s = (s.number == session) && is_live s.life
 touches (Answered session number reply) s = s.number == session
+touches (Attempt session peer) s = s.number == session
+touches (NotSent session) s = s.number == session
+touches (NoReply session) s = s.number == session
+touches Restart s = s.sending.in_flight
 
 -- what it does to them
-abbrev pub effect : ℕ → SmfEvent → Session → Session
-effect now (Attach session subscriber groups moment) s = s
-effect now (Start session group moment) s = started group moment s
-effect now (Count session r) s = counted r s
-effect now (Change session trigger moment) s = changed trigger moment s
-effect now (Tick moment) s = s
-effect now (Detach session abnormal moment) s = detached abnormal moment s
-effect now (Answered session number reply) s = answered_by now reply s.request s
+abbrev pub effect : SmfSetup → ℕ → SmfEvent → Session → Session
+effect setup now (Attach session subscriber groups moment) s = s
+effect setup now (Start session group moment) s = started group moment s
+effect setup now (Count session r) s = counted r s
+effect setup now (Change session trigger moment) s = changed trigger moment s
+effect setup now (Tick moment) s = s
+effect setup now (Detach session abnormal moment) s = detached abnormal moment s
+effect setup now (Answered session number reply) s = answered_by now reply s.request s
+effect setup now (Attempt session peer) s = attempted peer s
+effect setup now (NotSent session) s = lost setup now Unsent s
+effect setup now (NoReply session) s = lost setup now Unanswered s
+effect setup now Restart s = lost setup now Unanswered s
 
 -- then each is settled, a request is frozen where one is due, and what waits beyond the greatest number is given up
 abbrev pub finished : SmfSetup → ℕ → Session → Session
@@ -173,7 +214,7 @@ finished setup now s = dropped setup (freeze_due setup now (settled setup now s)
 
 -- a session after an event
 abbrev pub next_session : SmfSetup → ℕ → SmfEvent → Session → Session
-next_session setup now event s = if touches event s then finished setup now (effect now event s) else s
+next_session setup now event s = if touches event s then finished setup now (effect setup now event s) else s
 
 -- a new session wishes for quota for its groups in a Create
 abbrev pub entries_of : List ℕ → List Entry
@@ -181,7 +222,7 @@ entries_of groups = fold (λ entries group. with_asked group entries) [] groups
 
 -- a session at its Attach, with no request yet
 abbrev pub fresh : SmfSetup → ℕ → List ℕ → List ℕ → ℕ → Session
-fresh setup number subscriber groups moment = record { number = number; subscriber = subscriber; reference = None; life = Live; last = moment; count = 0; reports = 0; at_once = false; failover = setup.failover; handling = setup.handling; groups = entries_of groups; holdings = []; rules = []; request = None }
+fresh setup number subscriber groups moment = record { number = number; subscriber = subscriber; reference = None; life = Live; last = moment; count = 0; reports = 0; at_once = false; failover = setup.failover; handling = setup.handling; peer = Primary; sending = at_rest; groups = entries_of groups; holdings = []; rules = []; request = None }
 
 -- the session that an event adds, with its first request
 abbrev pub added_by : SmfSetup → ℕ → SmfEvent → List Session

@@ -21,6 +21,7 @@ use Rattle.smf_model.specs.declared.session.Entry.{Entry}
 use Rattle.smf_model.specs.declared.session.Rule.{Rule}
 use Rattle.smf_model.specs.declared.session.Session.{Session}
 use Rattle.smf_model.specs.Rules.{or_earlier, with_rules}
+use Rattle.smf_model.specs.Sending.{at_rest, latest_peer, with_peer}
 use Rattle.smf_model.specs.Settle.{is_frozen}
 use Rattle.smf_model.specs.Traffic.{ended, ended_for}
 
@@ -88,6 +89,7 @@ rules_after answer entries rules = fold (with_group_rules answer.units) (with_ru
 abbrev pub succeeded : ℕ → Option ℕ → Answer → Session → Session
 succeeded stamp reference answer s = record s {
   request = None;
+  sending = at_rest;
   reference = or_earlier reference s.reference;
   failover = unwrap_or answer.failover s.failover;
   handling = unwrap_or answer.handling s.handling;
@@ -107,7 +109,7 @@ replied now stamp (Updated answer) s = succeeded stamp None answer s
 replied now stamp Released s = released now s
 replied now stamp (Refused problem) s = ended_for WasRefused now s
 
--- a final reply to the unanswered request
+-- a final reply to the unanswered request, from whichever attempt it comes; from then on rounds begin with the peer of the latest attempt
 abbrev pub answered_by : ℕ → Reply → Option Request → Session → Session
 answered_by now reply None s = s
-answered_by now reply (Some q) s = replied now q.stamp reply s
+answered_by now reply (Some q) s = with_peer (latest_peer s) (replied now q.stamp reply s)

@@ -8,7 +8,7 @@ use Rattle.smf_model.specs.declared.setup.SmfSetup.{SmfSetup}
 use Rattle.smf_model.specs.declared.session.Holding.{Holding}
 use Rattle.smf_model.specs.declared.session.Session.{Session}
 use Rattle.smf_model.specs.declared.event.SmfEvent.{SmfEvent}
-use Rattle.smf_model.specs.declared.event.SmfEvent.TheVariants.{Attach, Start, Count, Change, Tick, Detach, Answered}
+use Rattle.smf_model.specs.declared.event.SmfEvent.TheVariants.{Attach, Start, Count, Change, Tick, Detach, Answered, Attempt, NotSent, NoReply, Restart}
 use Rattle.smf_model.specs.Machine.{expected_of}
 use Rattle.smf_model.specs.History.{Brings, history}
 use Rattle.smf_model.specs.GivenHorizons.{horizons_in, AreAllowed}
@@ -32,6 +32,10 @@ report_in setup now number (Change session trigger moment) s = []
 report_in setup now number (Tick moment) s = []
 report_in setup now number (Detach session abnormal moment) s = []
 report_in setup now number (Answered session place reply) s = []
+report_in setup now number (Attempt session peer) s = []
+report_in setup now number (NotSent session) s = []
+report_in setup now number (NoReply session) s = []
+report_in setup now number Restart s = []
 
 -- the reports of a session in order: those of its Count events that were answered New
 abbrev pub reports : SmfSetup → List SmfEvent → ℕ → List Report

@@ -9,19 +9,25 @@ use Rattle.units.specs.declared.reply.Reply.{Reply}
 use Rattle.units.specs.declared.reply.Reply.TheVariants.{Created, Updated, Released, Refused}
 use Rattle.sessions.specs.Kept.{is_success}
 use Rattle.sessions.specs.Trace.{Move, requests}
-use Rattle.sessions.specs.Trace.Move.{Closes, Drops, Freezes, GivesUp, Answers}
+use Rattle.sessions.specs.Trace.Move.{Closes, Drops, Freezes, Attempts, NotSent as EndsUnsent, NoReply as EndsUnanswered, GivesUp, Answers}
 use Rattle.smf_model.specs.declared.setup.SmfSetup.{SmfSetup}
+use Rattle.smf_model.specs.declared.session.Life.{Life}
+use Rattle.smf_model.specs.declared.session.Life.TheVariants.{Live, Ending, Aborting, Ended}
+use Rattle.smf_model.specs.declared.session.Loss.{Loss}
+use Rattle.smf_model.specs.declared.session.Loss.TheVariants.{Unsent, Unanswered}
 use Rattle.smf_model.specs.declared.session.Holding.{Holding}
 use Rattle.smf_model.specs.declared.session.Session.{Session}
 use Rattle.smf_model.specs.declared.session.Machine.{Machine}
 use Rattle.smf_model.specs.declared.event.SmfEvent.{SmfEvent}
-use Rattle.smf_model.specs.declared.event.SmfEvent.TheVariants.{Attach, Start, Count, Change, Tick, Detach, Answered}
+use Rattle.smf_model.specs.declared.event.SmfEvent.TheVariants.{Attach, Start, Count, Change, Tick, Detach, Answered, Attempt, NotSent, NoReply, Restart}
 use Rattle.smf_model.specs.declared.refusal.Seen.{Seen}
 use Rattle.smf_model.specs.declared.refusal.Seen.TheVariants.{New, Known}
 use Rattle.smf_model.specs.declared.refusal.SmfRefusal.{SmfRefusal}
 use Rattle.smf_model.specs.Settle.{is_open, is_waiting, is_open_of, open_of, entry_of, due_at, settled}
 use Rattle.smf_model.specs.Freeze.{waiting_count, next_operation, request_of, freeze_due, with_request}
+use Rattle.smf_model.specs.Sending.{unmarked}
 use Rattle.smf_model.specs.Traffic.{horizon_in, closes_before}
+use Rattle.smf_model.specs.Rounds.{is_continue, with_loss, is_last}
 use Rattle.smf_model.specs.Machine.{is_ended, session_of, answer_of, now_after, touches, effect, fresh, machine_after}
 
 -- the containers that a part of an event closes: what closes each, where something does
@@ -74,7 +80,34 @@ abbrev pub reply_moves : ℕ → Reply → Option Request → Session → List M
 reply_moves now reply None s = []
 reply_moves now reply (Some q) s = Answers reply ∷ ending_moves now reply s
 
--- what an event's own effect closes and answers
+-- an attempt ends without an answer
+abbrev pub loss_move : Loss → Move
+loss_move Unsent = EndsUnsent
+loss_move Unanswered = EndsUnanswered
+
+-- a live session that is broken off closes what is open
+abbrev pub breaking_moves : ℕ → Life → Session → List Move
+breaking_moves now Live s = closes_all now AbnormalRelease s
+breaking_moves now Ending s = []
+breaking_moves now Aborting s = []
+breaking_moves now Ended s = []
+
+-- a round is over
+abbrev pub round_moves : ℕ → Session → List Move
+round_moves now s =
+    if is_continue s.handling then [] else
+    (if s.sending.unsent then GivesUp ∷ closes_all now AbnormalRelease s else
+    breaking_moves now s.life s)
+
+-- after an attempt
+abbrev pub moved_moves : ℕ → Session → List Move
+moved_moves now s = if is_last s then round_moves now s else []
+
+-- the attempt in flight ended without an answer
+abbrev pub lost_moves : ℕ → Loss → Session → List Move
+lost_moves now loss s = moved_moves now (with_loss loss s) ++ loss_move loss ∷ []
+
+-- what an event's own effect closes, answers, attempts, loses and gives up
 abbrev pub effect_moves : ℕ → SmfEvent → Session → List Move
 effect_moves now (Attach session subscriber groups moment) s = []
 effect_moves now (Start session group moment) s = []
@@ -83,10 +116,14 @@ effect_moves now (Change session trigger moment) s = closes_all moment trigger s
 effect_moves now (Tick moment) s = []
 effect_moves now (Detach session abnormal moment) s = closes_all moment (if abnormal then AbnormalRelease else Final) s
 effect_moves now (Answered session number reply) s = reply_moves now reply s.request s
+effect_moves now (Attempt session peer) s = Attempts ∷ []
+effect_moves now (NotSent session) s = lost_moves now Unsent s
+effect_moves now (NoReply session) s = lost_moves now Unanswered s
+effect_moves now Restart s = lost_moves now Unanswered s
 
 -- what an event does to a session
 abbrev pub session_moves : SmfSetup → ℕ → SmfEvent → Session → List Move
-session_moves setup now event s = if touches event s then finish_moves setup now (effect now event s) ++ effect_moves now event s else []
+session_moves setup now event s = if touches event s then finish_moves setup now (effect setup now event s) ++ effect_moves now event s else []
 
 -- of a session that the event adds
 abbrev pub added_moves : SmfSetup → ℕ → ℕ → SmfEvent → List Move
@@ -143,7 +180,7 @@ FreezeWhenIdle (move ∷ earlier) = FreezeWhenIdle earlier
 -- a session is as its moves leave it
 pub record Agrees (t : List Move) (s : Session) : Type 0 where
   pub count : s.count ≡ length (requests t)
-  pub unanswered : s.request ≡ unanswered t
+  pub unanswered : unmarked s.request ≡ unanswered t
   pub numbered : AreNumbered (requests t)
   pub when_idle : FreezeWhenIdle t
   pub idle : is_some s.request ≡ false → is_ended s.life ≡ false → is_idle t ≡ true

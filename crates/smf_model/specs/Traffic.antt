@@ -16,6 +16,7 @@ use Rattle.smf_model.specs.declared.session.Holding.{Holding}
 use Rattle.smf_model.specs.declared.session.Entry.{Entry}
 use Rattle.smf_model.specs.declared.session.Session.{Session}
 use Rattle.smf_model.specs.Rules.{is_immediate, is_immediate_for}
+use Rattle.smf_model.specs.Sending.{at_rest}
 use Rattle.smf_model.specs.Settle.{is_open, is_waiting, is_frozen, is_open_of, open_of, entry_of, fire, close, is_at_once}
 
 -- the horizon of a rating group that the session may not have
@@ -129,7 +130,7 @@ detached abnormal moment s = record (if abnormal then without_traffic Aborting m
 
 -- the charging session is over
 abbrev pub ended : ℕ → Session → Session
-ended now s = record (without_traffic Ended now AbnormalRelease s) { request = None }
+ended now s = record (without_traffic Ended now AbnormalRelease s) { request = None; sending = at_rest }
 
 -- and what waits or is frozen is given up
 abbrev pub give_up : Why → Holding → Holding

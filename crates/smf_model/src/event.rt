@@ -1,4 +1,5 @@
 //! What may come to the machine.
+use crate::session::Peer;
 use units::{List, Moment, Reply, Report, Text, TriggerType};
 
 /// What comes to the machine (TS 32.255, 5.2.1; TS 32.290, 5.3.2).
@@ -44,4 +45,19 @@ pub enum SmfEvent {
         number: u32,
         reply: Reply,
     },
+    /// An attempt to send the unanswered request begins.
+    Attempt {
+        session: u32,
+        peer: Peer,
+    },
+    /// That attempt ended, and the request did not leave.
+    NotSent {
+        session: u32,
+    },
+    /// That attempt ended without a reply.
+    NoReply {
+        session: u32,
+    },
+    /// The machine starts again: what became of the attempts that have no end is not known.
+    Restart,
 }

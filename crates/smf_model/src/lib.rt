@@ -25,5 +25,5 @@ pub use laws::{
     settles_once,
 };
 pub use refusal::{Seen, SmfRefusal};
-pub use session::{Entry, Holding, Life, Machine, Place, Rule, Session, Why};
+pub use session::{Entry, Holding, Life, Loss, Machine, Peer, Place, Rule, Sending, Session, Why};
 pub use setup::{SmfSetup, copy_setup};

@@ -43,6 +43,36 @@ pub enum Place {
     GivenUp(Why),
 }
 
+/// The CHF that an attempt goes to (TS 32.290, failure handling).
+#[derive(Clone, Copy, PartialEq, Eq, Debug)]
+pub enum Peer {
+    /// The primary one.
+    Primary,
+    /// The alternate one.
+    Alternate,
+}
+
+/// How an attempt ended that brought no answer (this product's own).
+#[derive(Clone, Copy, PartialEq, Eq, Debug)]
+pub enum Loss {
+    /// The request did not leave.
+    Unsent,
+    /// It left, or may have left, and no reply came.
+    Unanswered,
+}
+
+/// How far the sending of the unanswered request is (TS 32.290, failure handling): the peer of its latest attempt; whether that has no
+/// end yet; whether each attempt that ended did not leave; how many attempts of the round ended; and the moment before which no attempt
+/// is made.
+#[derive(Clone, Copy, PartialEq, Eq, Debug)]
+pub struct Sending {
+    pub latest: Option<Peer>,
+    pub in_flight: bool,
+    pub unsent: bool,
+    pub turn: u32,
+    pub wait: Option<Moment>,
+}
+
 /// A container of a session, with what closed it and when (TS 32.255, 5.2.1).
 #[derive(Clone, Copy, PartialEq, Eq, Debug)]
 pub struct Holding {
@@ -70,7 +100,7 @@ pub struct Rule {
 }
 
 /// A charging session as it is now. Its groups ascend, its containers are in order of their numbers, and of its rules those of the
-/// session come first, then those of each group, in the order of their types.
+/// session come first, then those of each group, in the order of their types. Its peer is the CHF that its rounds of attempts begin with.
 #[derive(Debug, Drop)]
 pub struct Session {
     pub number: u32,
@@ -83,6 +113,8 @@ pub struct Session {
     pub at_once: bool,
     pub failover: bool,
     pub handling: Handling,
+    pub peer: Peer,
+    pub sending: Sending,
     pub groups: List<Entry>,
     pub holdings: List<Holding>,
     pub rules: List<Rule>,

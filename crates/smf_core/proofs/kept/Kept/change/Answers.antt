@@ -11,7 +11,7 @@ returns-clause-made c =
     let seen : full k.session k.holdings.items ≡ c.args.self.now.session = ap (λ (x : KeptAs). x.session) c.self.view_is in
     let count : c.len.result ≡ length k.holdings.items = omega (arith, c.len.ensures, c.reserve.ensures.len, k.holdings.ok.0) in
     if_ok c.change_of.result _ _ (λ x m.
-    subst (λ s. changed x s ≡ finished c.args.setup.now c.args.now (effect c.args.now c.args.event.now s)) seen
+    subst (λ s. changed x s ≡ finished c.args.setup.now c.args.now (effect c.args.setup.now c.args.now c.args.event.now s)) seen
     (made x c.args.setup.now c.args.now c.args.event.now k.session k.holdings.items k.places k.containers.items k.held c.self.invariant
     (with_places x c.args.setup.now c.args.now c.args.event.now k.session c.as_slice-places.result.now k.places c.len.result (length k.holdings.items) c.as_slice-places.ensures count m)))
     c.change_of.ensures

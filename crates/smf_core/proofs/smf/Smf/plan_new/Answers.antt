@@ -10,14 +10,14 @@ use Rattle.smf_core.proofs.smf.Smf.plan_new.Goals as goal
 pub returns-clause-next : goal.returns-clause-next
 returns-clause-next c =
     let s = c.self.inside in
-    let kept : (with_items s.sessions c.next_for.new.sessions).items ≡ c.next_for.new.sessions = with_items_is s.sessions c.next_for.new.sessions (omega arith) in
+    let kept : (with_items s.sessions c.next_turns.new.sessions).items ≡ c.next_turns.new.sessions = with_items_is s.sessions c.next_turns.new.sessions (omega arith) in
     subst (NextIsReady c.in_ok-next.next) (sym kept) c.in_ok-next.ensures.ready
 
 pub returns-clause-added : goal.returns-clause-added
 returns-clause-added c =
     let s = c.self.inside in
-    let kept : (with_items s.sessions c.next_for.new.sessions).items ≡ c.next_for.new.sessions = with_items_is s.sessions c.next_for.new.sessions (omega arith) in
-    let same : sessions_of c.next_for.new.sessions ≡ sessions_of s.sessions.items = c.next_for.ensures.same ∙ ap sessions_of c.deref_mut.ensures.value in
+    let kept : (with_items s.sessions c.next_turns.new.sessions).items ≡ c.next_turns.new.sessions = with_items_is s.sessions c.next_turns.new.sessions (omega arith) in
+    let same : sessions_of c.next_turns.new.sessions ≡ sessions_of s.sessions.items = c.next_turns.ensures.same ∙ ap sessions_of c.deref_mut.ensures.value in
     let room : 0 < min (s.sessions.cap - s.sessions.len) s.index.room = subst (λ (x : Shown). 0 < x.room) (sym c.self.view_is) c.requires.room in
     let new = ap (λ (x : Shown). answer_of x.machine c.args.event.now) c.self.view_is ∙ c.requires.new in
     subst (λ ss. AddedIsReady c.in_ok-added.added ss (min (s.sessions.cap - s.sessions.len) s.index.room)) (sym (ap sessions_of kept ∙ same))

@@ -5,7 +5,7 @@ use Rattle.smf_core.specs.Plan.{sessions_next, map_at}
 use Rattle.smf_core.specs.Caches.{sessions_of}
 use Rattle.smf_core.proofs.KeptRight.{if_ok}
 use Rattle.smf_core.proofs.Nexts.{none_step, one_step, one_within}
-use Rattle.smf_core.proofs.next.next_for.Goals as goal
+use Rattle.smf_core.proofs.next.next_turns.Goals as goal
 
 pub one_change-requires : goal.one_change-requires
 one_change-requires c = one_within c.args.event.now c.in-Some.field-0 c.in-Some-place.at c.args.sessions.now (sym c.in-Some.ensures) (sym c.requires.place ∙ c.in-Some-place.is)
