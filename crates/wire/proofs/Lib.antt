@@ -16,3 +16,6 @@ pub mod Deciding
 pub mod Reading
 pub mod RequestBack
 pub mod ResponseBack
+pub mod Going
+pub mod RequestGoing
+pub mod ResponseGoing

@@ -8,6 +8,7 @@ pub mod Starts
 pub mod RequestParts
 pub mod ResponseParts
 pub mod Target
+pub mod FieldLines
 pub mod Laws
 pub mod Buffers
 pub mod Decisions

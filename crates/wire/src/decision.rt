@@ -10,7 +10,7 @@ ghost use Rattle.wire.specs.Held.{HasTaken};
 ghost use Rattle.wire.specs.Starts.{IsFound};
 
 use crate::buffer::Buffer;
-use crate::framed::{FoundHead, Framed, Start, start_of};
+use crate::framed::{FoundHead, Framed, Start, start_after};
 use crate::front::is_front_cut;
 use crate::refusal::WireRefusal;
 use edge::{Failed, Source};
@@ -85,8 +85,9 @@ pub fn decide<M: Framed, S: Source>(
     ensures openings { S.openings source.new ≡ S.openings source.old }
     ensures failed_openings { S.failed_openings source.new ≡ S.failed_openings source.old }
 {
+    let mut had = 0;
     loop {
-        match start_of::<M>(buffer.bytes(), fields) {
+        match start_after::<M>(buffer.bytes(), had, fields) {
             Start::Found(found) => return match found.body {
                 Ok(count) => with_body::<M, S>(buffer, found, count, source),
                 Err(refusal) => Ok(Decision::Refused(refusal)),
@@ -97,6 +98,7 @@ pub fn decide<M: Framed, S: Source>(
         if is_front_cut(buffer.bytes()) {
             return Ok(Decision::Refused(WireRefusal::TooLong { head: true }));
         }
+        had = buffer.bytes().len();
         match buffer.read(source) {
             Ok(true) => {}
             Ok(false) => return Ok(Decision::Ended),

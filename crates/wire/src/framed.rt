@@ -1,10 +1,10 @@
 //! What the reader asks of a kind of message, and what stands at the front of some bytes.
-ghost use Rattle.std.specs.Prelude.{◌≡◌, ◌≤◌, ℕ, List, IfOk, length};
-ghost use Rattle.wire.specs.Front.{front, line_feeds};
+ghost use Rattle.std.specs.Prelude.{◌≡◌, ◌≤◌, ◌<◌, ℕ, List, IfOk, IsTrue, false, length, take};
+ghost use Rattle.wire.specs.Front.{front, is_cut, line_feeds};
 ghost use Rattle.wire.specs.Heads.{Head};
-ghost use Rattle.wire.specs.Starts.{FindsHead, Starts};
+ghost use Rattle.wire.specs.Starts.{FindsHead, IsOpen, Starts};
 
-use crate::front::{MOST_BYTES, MOST_LINES, count_lines, front_of};
+use crate::front::{MOST_BYTES, MOST_LINES, count_lines, front_of, is_front_cut};
 use crate::refusal::WireRefusal;
 use httparse::spans::HeaderSpan;
 use std::alloc::{AllocError, Global};
@@ -43,6 +43,12 @@ pub trait Framed {
         ensures found { FindsHead is_at are_parts near.now result }
         ensures exact { line_feeds near.now ≤ 66 → Starts is_at is_hopeless are_parts near.now result };
 
+    /// Whether bytes begin no head so far, where the first of them do not: an answer that costs less than `parse`, and is false
+    /// where it takes more to tell.
+    fn goes_on(near: &[u8], had: usize) -> bool
+        requires { had ≤ length near.now }
+        ensures { IsTrue result → IsOpen is_at is_hopeless (take had near.now) → IsOpen is_at is_hopeless near.now };
+
     /// The message that a head with these parts is with this body.
     fn message(
         alloc: Global,
@@ -68,4 +74,22 @@ pub fn start_of<M: Framed>(bytes: &[u8], fields: &mut [HeaderSpan]) -> Start<M::
         Start::Open if count_lines(near) < MOST_LINES => Start::Open,
         _ => M::parse(front_of(bytes), fields),
     }
+}
+
+/// What stands at the front of these bytes, of which it is known that the first so many begin nothing, or 0.
+pub fn start_after<M: Framed>(
+    bytes: &[u8],
+    had: usize,
+    fields: &mut [HeaderSpan],
+) -> Start<M::Parts>
+    requires places { length fields.old ≡ 66 }
+    requires within { had ≤ length bytes.now }
+    requires known { 0 < had → IsOpen M.is_at M.is_hopeless (front (take had bytes.now)) }
+    requires short { 0 < had → is_cut (take had bytes.now) ≡ false }
+    ensures { Starts M.is_at M.is_hopeless M.are_parts (front bytes.now) result }
+{
+    if had > 0 && !is_front_cut(bytes) && M::goes_on(bytes, had) {
+        return Start::Open;
+    }
+    start_of::<M>(bytes, fields)
 }

@@ -5,6 +5,7 @@ ghost use Rattle.wire.specs.ResponseParts.{AreResponseParts, IsText, text_at};
 ghost use Rattle.wire.specs.Responses.{IsHopelessResponse, IsResponseHeadAt};
 ghost use Rattle.wire.specs.Starts.{IsFound};
 
+use crate::field_line::ends_in_field;
 use crate::framed::{FoundHead, Framed, Start};
 use crate::length::read_body_length;
 use crate::location::find_location;
@@ -65,6 +66,10 @@ impl Framed for HttpResponse {
             Ok(Status::Partial) => Start::Open,
             Err(_) => Start::Hopeless,
         }
+    }
+
+    fn goes_on(near: &[u8], had: usize) -> bool {
+        ends_in_field(near, had)
     }
 
     fn message(

@@ -1,7 +1,8 @@
-use Rattle.std.proofs.Common.{◌≡◌, ◌∙◌, ◌<◌, ◌-◌, Ok, length, true, false, true≢false, ap, arith, refl, subst, sym}
+use Rattle.std.proofs.Common.{◌≡◌, ◌∙◌, Ok, length, take, true, false, true≢false, ap, arith, refl, subst, sym}
+use Rattle.std.proofs.lemmas.List.{take_at}
 use Rattle.wire.specs.Front.{front, is_cut}
 use Rattle.wire.specs.Heads.{Begins, More}
-use Rattle.wire.specs.Starts.{IsFound, Starts}
+use Rattle.wire.specs.Starts.{IsFound, IsOpen, Starts}
 use Rattle.wire.specs.declared.framed.Start.TheVariants as start
 use Rattle.wire.proofs.Deciding.{cut_is_bad, filled_more, filled_then, hopeless_is_bad, open_start, refused_head, refused_of_bytes}
 use Rattle.wire.proofs.Fronts.{open_is_short}
@@ -11,6 +12,9 @@ use Rattle.wire.proofs.decision.decide.Goals as goal
 pub loop-found-init : goal.loop-found-init
 loop-found-init g c = record {
   filled = record { took = took_none _ _ _; needed = λ decides. refl };
+  within = omega arith;
+  known = λ some. absurd (omega (arith, some));
+  short = λ some. absurd (omega (arith, some));
   faults = refl;
   written = refl;
   openings = refl;
@@ -51,8 +55,15 @@ pub loop-found-preserved : goal.loop-found-preserved
 loop-found-preserved g c =
     let more = open_start g.M.Framed.is_at g.M.Framed.is_hopeless g.M.Framed.are_parts c.loop-found.buffer.held c.bytes.result.now c.bytes-in-loop-found.result.now c.is_front_cut.result
     c.bytes.ensures c.bytes-in-loop-found.ensures c.in-Open.ensures c.is_front_cut.ensures c.if-is_front_cut.false in
+    let held = c.loop-found.buffer.held in
+    let same : take (length c.bytes-had.result.now) c.read.new.self.held ≡ held =
+    ap (λ b. take (length c.bytes-had.result.now) b) c.in-Ok-true.ensures.took.had ∙ take_at held c.in-Ok-true.ensures.took.taken (length c.bytes-had.result.now) (sym (ap length c.bytes-had.ensures)) in
+    let open_now = subst (λ b. IsOpen g.M.Framed.is_at g.M.Framed.is_hopeless (front b)) (c.bytes.ensures ∙ sym same) c.in-Open.ensures in
     record {
       filled = filled_more g.M.Framed.is_at g.M.Framed.is_hopeless g.M.Framed.are_parts false _ _ _ _ _ _ _ _ _ c.loop-found.invariant.filled more c.in-Ok-true.ensures.took;
+      within = omega (arith, ap length c.bytes-had.ensures, c.in-Ok-true.ensures.more (ap Ok c.in-Ok-true.field-0-test));
+      known = λ some. open_now;
+      short = λ some. ap is_cut (same ∙ sym c.bytes-in-loop-found.ensures) ∙ sym c.is_front_cut.ensures ∙ c.if-is_front_cut.false;
       faults = c.in-Ok-true.ensures.cause.kept ∙ c.loop-found.invariant.faults;
       written = c.in-Ok-true.ensures.written ∙ c.loop-found.invariant.written;
       openings = c.in-Ok-true.ensures.openings ∙ c.loop-found.invariant.openings;
