@@ -185,3 +185,8 @@ front_near b end is few =
     let within = front_within b in
     let none : length g.0 ≡ 0 = omega (arith, ap length whole, length-append (take end b) g.0, long, is, within.0, within.1) in
     whole ∙ ap (λ x. take end b ++ x) (nil_from_length g.0 none) ∙ append-nil (take end b)
+
+-- bytes short of both bounds are not cut
+pub short_is_open : (b : List ℕ) → length b < 16384 → line_feeds b < 66 → is_cut b ≡ false
+unfolding is_cut
+short_is_open b size lines = grind arith

@@ -1,14 +1,22 @@
 -- Bytes that end within the line of a field become a head with two line feeds more.
-use Rattle.std.proofs.Common.{◌≡◌, ◌≢◌, ℕ, zero, suc, ◌+◌, ◌<◌, inl, inr, ⊎_elim, List, [], ◌∷◌, ◌++◌, codes, length, take, drop, get_or, All, IsTrue, Bool, true, false, not, ◌==◌, nat_lt, refl, sym, ◌∙◌, ap, subst, arith, append_assoc}
+use Rattle.std.proofs.Common.{◌≡◌, ◌≢◌, ℕ, zero, suc, ◌+◌, ◌<◌, ⊎_elim, List, [], ◌∷◌, ◌++◌, codes, length, take, drop, get_or, All, IsTrue, Bool, true, false, not, ◌==◌, refl, sym, ◌∙◌, ap, subst, arith, append_assoc, ◌-◌}
 use Rattle.std.specs.List.{flat_map, list_all}
 use Rattle.std.specs.Prelude.{⊤}
-use Rattle.std.proofs.lemmas.List.{append-nil, drop_more, take-append-drop}
+use Rattle.std.proofs.lemmas.List.{append-nil}
 use Rattle.std.proofs.lemmas.Grind.{flat_map-append}
 use Rattle.std.proofs.lemmas.List.Elements.{All-nil, All-cons, All-head, All-tail, All-append}
 use Rattle.std.proofs.lemmas.Bool.{and_parts, eq-eqb}
-use Rattle.httparse.specs.Grammar.{AllPass, Field, IsField, IsToken, LineEnd, crlf, lf, is_token, is_token_byte, is_value_byte, print_blank, print_end, print_field, print_section, print_version}
+use Rattle.httparse.specs.Grammar.{AllPass, Field, IsField, IsToken, LineEnd, crlf, lf, is_token_byte, is_value_byte, print_blank, print_end, print_field, print_section, print_version}
 use Rattle.httparse.proofs.OnLiterals.{httparse_on_literals}
 use Rattle.wire.specs.FieldLines.{IsFieldPart}
+
+-- the bytes begin with no empty line, and behind a line feed they end with some of a field's line
+pub record EndsInField (bytes : List ℕ) (at : ℕ) : Type 0 where
+  pub some : 0 < at
+  pub feed : get_or bytes (at - 1) 0 ≡ 10
+  pub return : get_or bytes 0 0 ≢ 13
+  pub blank : get_or bytes 0 0 ≢ 10
+  pub part : IsFieldPart (drop at bytes)
 
 -- no line feed among these
 abbrev pub NoFeed : List ℕ → Type 0
@@ -155,23 +163,6 @@ completed gs (l ∷ line) all part = ⊎_elim
   where
     regroup : (a b c d : List ℕ) → (a ++ (b ++ c)) ++ d ≡ (a ++ b) ++ (c ++ d)
     regroup a b c d = simp append_assoc
-
-all_true : (test : ℕ → Bool) (bytes : List ℕ) → list_all test bytes ≡ true → AllPass test bytes
-all_true test [] is = All-nil (λ b. IsTrue (test b))
-all_true test (b ∷ bytes) is = let both = and_parts (test b) (list_all test bytes) is in All-cons (λ b. IsTrue (test b)) b bytes both.0 (all_true test bytes both.1)
-
-is_some : (n : ℕ) → nat_lt 0 n ≡ true → 0 < n
-is_some n is = grind arith
-
-pub token_is : (bytes : List ℕ) → is_token bytes ≡ true → IsToken bytes
-token_is bytes is = let both = and_parts (nat_lt 0 (length bytes)) (list_all is_token_byte bytes) is in (is_some (length bytes) both.0, all_true is_token_byte bytes both.1)
-
-pub name_part : (line : List ℕ) → is_token line ≡ true → IsFieldPart line
-name_part line is = inl (token_is line is).1
-
-pub value_part : (line : List ℕ) (at : ℕ) → at < length line → get_or line at 0 ≡ 58 → is_token (take at line) ≡ true → list_all is_value_byte (drop (at + 1) line) ≡ true → IsFieldPart line
-value_part line at here colon name value =
-    inr (take at line, drop (at + 1) line, token_is (take at line) name, all_true is_value_byte (drop (at + 1) line) value, sym (take-append-drop at line) ∙ ap (λ t. take at line ++ t) (drop_more line at 0 here ∙ ap (λ b. b ∷ drop (at + 1) line) colon))
 
 pub version_no_feed : (minor : ℕ) → NoFeed (print_version minor)
 unfolding httparse_on_literals

@@ -19,3 +19,4 @@ pub mod ResponseBack
 pub mod Going
 pub mod RequestGoing
 pub mod ResponseGoing
+pub mod Following

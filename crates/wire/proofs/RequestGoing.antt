@@ -5,10 +5,10 @@ use Rattle.std.proofs.lemmas.List.{append-nil, take-append-drop}
 use Rattle.std.proofs.Math.Seq.{take-add}
 use Rattle.std.proofs.lemmas.List.Elements.{All-nil, All-cons, All-head, All-tail}
 use Rattle.httparse.specs.Grammar.{EndsInTarget, HasNoRequest, IsRequestHead, lf, ReadsRequest, RequestHead, is_uri_byte, print_blank, print_field, print_request, print_section, print_version}
-use Rattle.wire.specs.FieldLines.{EndsInField, IsFieldPart}
+use Rattle.wire.specs.FieldLines.{IsFieldPart}
 use Rattle.wire.specs.Requests.{IsHopelessRequest, IsRequestHeadAt, read_request_head}
 use Rattle.wire.specs.Starts.{IsOpen}
-use Rattle.wire.proofs.Going.{NoFeed, Ended, after_line, before_feed, completed, end_is, ended_at, line_before, no_blank, no_feed_append, none_before, part_no_feed, pass_no_feed, token_no_feed, version_no_feed, within_fields}
+use Rattle.wire.proofs.Going.{EndsInField, NoFeed, Ended, after_line, before_feed, completed, end_is, ended_at, line_before, no_blank, no_feed_append, none_before, part_no_feed, pass_no_feed, token_no_feed, version_no_feed, within_fields}
 use Rattle.wire.proofs.Hopes.{split}
 
 -- the first line before its line feed

@@ -6,10 +6,10 @@ use Rattle.std.proofs.lemmas.List.{append-nil, take-append-drop}
 use Rattle.std.proofs.Math.Seq.{take-add}
 use Rattle.std.proofs.lemmas.List.Elements.{All-nil, All-cons}
 use Rattle.httparse.specs.Grammar.{AllPass, HasNoResponse, IsResponseHead, lf, ReadsResponse, ResponseHead, is_value_byte, print_blank, print_field, print_response, print_reason, print_section, print_version, reason_phrase}
-use Rattle.wire.specs.FieldLines.{EndsInField, IsFieldPart}
+use Rattle.wire.specs.FieldLines.{IsFieldPart}
 use Rattle.wire.specs.Responses.{IsHopelessResponse, IsResponseHeadAt, read_response_head}
 use Rattle.wire.specs.Starts.{IsOpen}
-use Rattle.wire.proofs.Going.{NoFeed, Ended, after_line, before_feed, completed, end_is, ended_at, line_before, no_blank, no_feed_append, none_before, part_no_feed, pass_no_feed, value_no_feed, version_no_feed, within_fields}
+use Rattle.wire.proofs.Going.{EndsInField, NoFeed, Ended, after_line, before_feed, completed, end_is, ended_at, line_before, no_blank, no_feed_append, none_before, part_no_feed, pass_no_feed, value_no_feed, version_no_feed, within_fields}
 use Rattle.wire.proofs.Hopes.{split}
 
 -- the first line before its line feed

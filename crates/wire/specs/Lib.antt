@@ -14,3 +14,4 @@ pub mod Buffers
 pub mod Decisions
 pub mod Texts
 pub mod ReadBack
+pub mod Looks

@@ -10,8 +10,8 @@ ghost use Rattle.wire.specs.Held.{HasTaken};
 ghost use Rattle.wire.specs.Starts.{IsFound};
 
 use crate::buffer::Buffer;
-use crate::framed::{FoundHead, Framed, Start, start_after};
-use crate::front::is_front_cut;
+use crate::field_line::Line;
+use crate::framed::{FoundHead, Framed, Look, look_at};
 use crate::refusal::WireRefusal;
 use edge::{Failed, Source};
 use httparse::spans::HeaderSpan;
@@ -86,17 +86,15 @@ pub fn decide<M: Framed, S: Source>(
     ensures failed_openings { S.failed_openings source.new ≡ S.failed_openings source.old }
 {
     let mut had = 0;
+    let mut line = Line::Unknown;
     loop {
-        match start_after::<M>(buffer.bytes(), had, fields) {
-            Start::Found(found) => return match found.body {
+        match look_at::<M>(buffer.bytes(), had, line, fields) {
+            Look::Found(found) => return match found.body {
                 Ok(count) => with_body::<M, S>(buffer, found, count, source),
                 Err(refusal) => Ok(Decision::Refused(refusal)),
             },
-            Start::Hopeless => return Ok(Decision::Refused(WireRefusal::BadHead)),
-            Start::Open => {}
-        }
-        if is_front_cut(buffer.bytes()) {
-            return Ok(Decision::Refused(WireRefusal::TooLong { head: true }));
+            Look::Refused(refusal) => return Ok(Decision::Refused(refusal)),
+            Look::Open(end) => line = end,
         }
         had = buffer.bytes().len();
         match buffer.read(source) {

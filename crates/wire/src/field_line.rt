@@ -1,51 +1,76 @@
-//! Bytes that end within the line of a field: they go on to be no head, and no wrong one, whatever the parser would do with them.
-ghost use Rattle.std.specs.Prelude.{◌≡◌, ◌≤◌, ◌<◌, ◌-◌, ℕ, IsTrue, length, slice_index};
-ghost use Rattle.wire.specs.FieldLines.{EndsInField, IsFieldPart};
+//! Where bytes end within the lines of a head: within a field they go on to be no head, and no wrong one, so a reader that
+//! follows them there needs no parser.
+ghost use Rattle.std.specs.Prelude.{◌≡◌, ◌≢◌, ◌≤◌, IsTrue, length, take};
+ghost use Rattle.wire.specs.FieldLines.{EndsIn, step_line};
 
-use httparse::{is_header_value, is_token};
+use httparse::{is_header_name_token, is_header_value_token};
 
-// Where the last line begins, behind the last line feed.
-fn last_line(bytes: &[u8]) -> usize
-    ensures within { result ≤ length bytes.now }
-    ensures feed { 0 < result → slice_index bytes.now (result - 1) ≡ 10 }
-{
-    let mut at = bytes.len();
-    while at > 0 && bytes[at - 1] != b'\n' {
-        at -= 1;
-    }
-    at
+/// Where bytes end.
+#[derive(Clone, Copy, Debug, PartialEq, Eq)]
+pub enum Line {
+    Unknown,
+    /// Behind a line feed.
+    Start,
+    /// Within a field's name.
+    Name,
+    /// Within a field's value.
+    Value,
 }
 
-// Where the first colon stands, or the end where there is none.
-fn colon(line: &[u8]) -> usize
-    ensures within { result ≤ length line.now }
-    ensures found { result < length line.now → slice_index line.now result ≡ 58 }
+// Where bytes end with one byte more.
+fn next_line(line: Line, byte: u8) -> Line
+    ensures { result ≡ step_line line byte }
 {
-    for (at, byte) in line.iter().enumerate() {
-        if *byte == b':' {
-            return at;
-        }
+    match line {
+        Line::Unknown => Line::Unknown,
+        Line::Start => if is_header_name_token(byte) {
+            Line::Name
+        } else {
+            Line::Unknown
+        },
+        Line::Name => if is_header_name_token(byte) {
+            Line::Name
+        } else if byte == b':' {
+            Line::Value
+        } else {
+            Line::Unknown
+        },
+        Line::Value => if is_header_value_token(byte) {
+            Line::Value
+        } else {
+            Line::Unknown
+        },
     }
-    line.len()
 }
 
-// Whether a line begins as that of a field does.
-fn is_field_part(line: &[u8]) -> bool
-    ensures { IsTrue result → IsFieldPart line.now }
+/// Where bytes end, of which the first so many end here.
+pub fn follow(bytes: &[u8], had: usize, line: Line) -> Line
+    requires within { had ≤ length bytes.now }
+    requires ends { EndsIn had (take had bytes.now) line }
+    ensures { EndsIn had bytes.now result }
 {
-    let at = colon(line);
-    if at == line.len() {
-        line.is_empty() || is_token(line)
+    let mut line = line;
+    for byte in &bytes[had..] {
+        line = next_line(line, *byte);
+    }
+    line
+}
+
+/// Where bytes end of which nothing is known but what they are: only an end behind a line feed is looked for.
+pub fn line_of(bytes: &[u8]) -> Line
+    ensures { EndsIn (length bytes.now) bytes.now result }
+{
+    let size = bytes.len();
+    if size > 0 && bytes[size - 1] == b'\n' && bytes[0] != b'\r' && bytes[0] != b'\n' {
+        Line::Start
     } else {
-        is_token(&line[..at]) && is_header_value(&line[at + 1..])
+        Line::Unknown
     }
 }
 
-/// Whether bytes end within the line of a field, of which the first so many have the line before whole.
-pub fn ends_in_field(bytes: &[u8], had: usize) -> bool
-    requires { had ≤ length bytes.now }
-    ensures { IsTrue result → (at : ℕ) × (at ≤ had) × EndsInField bytes.now at }
+/// Whether it is known where bytes end.
+pub fn is_known(line: Line) -> bool
+    ensures { IsTrue result → line ≢ Line.Unknown }
 {
-    let at = last_line(bytes);
-    0 < at && at <= had && bytes[0] != b'\r' && bytes[0] != b'\n' && is_field_part(&bytes[at..])
+    !matches!(line, Line::Unknown)
 }

@@ -1,9 +1,12 @@
 //! What the reader asks of a kind of message, and what stands at the front of some bytes.
-ghost use Rattle.std.specs.Prelude.{◌≡◌, ◌≤◌, ◌<◌, ℕ, List, IfOk, IsTrue, false, length, take};
+ghost use Rattle.std.specs.Prelude.{◌≡◌, ◌≢◌, ◌≤◌, ◌<◌, ℕ, List, IfOk, IsTrue, false, length, take};
 ghost use Rattle.wire.specs.Front.{front, is_cut, line_feeds};
 ghost use Rattle.wire.specs.Heads.{Head};
+ghost use Rattle.wire.specs.FieldLines.{EndsIn};
+ghost use Rattle.wire.specs.Looks.{Looks};
 ghost use Rattle.wire.specs.Starts.{FindsHead, IsOpen, Starts};
 
+use crate::field_line::{Line, follow, line_of};
 use crate::front::{MOST_BYTES, MOST_LINES, count_lines, front_of, is_front_cut};
 use crate::refusal::WireRefusal;
 use httparse::spans::HeaderSpan;
@@ -43,11 +46,13 @@ pub trait Framed {
         ensures found { FindsHead is_at are_parts near.now result }
         ensures exact { line_feeds near.now ≤ 66 → Starts is_at is_hopeless are_parts near.now result };
 
-    /// Whether bytes begin no head so far, where the first of them do not: an answer that costs less than `parse`, and is false
-    /// where it takes more to tell.
-    fn goes_on(near: &[u8], had: usize) -> bool
-        requires { had ≤ length near.now }
-        ensures { IsTrue result → IsOpen is_at is_hopeless (take had near.now) → IsOpen is_at is_hopeless near.now };
+    /// Whether bytes that end within the line of a field decide nothing, as the first so many of them do not: it is only asked
+    /// whether it is known where they end.
+    fn goes_on(near: &[u8], had: usize, line: Line) -> bool
+        requires within { had ≤ length near.now }
+        requires ends { EndsIn had near.now line }
+        ensures known { IsTrue result → line ≢ Line.Unknown }
+        ensures exact { IsTrue result → IsOpen is_at is_hopeless (take had near.now) → IsOpen is_at is_hopeless near.now };
 
     /// The message that a head with these parts is with this body.
     fn message(
@@ -76,20 +81,41 @@ pub fn start_of<M: Framed>(bytes: &[u8], fields: &mut [HeaderSpan]) -> Start<M::
     }
 }
 
-/// What stands at the front of these bytes, of which it is known that the first so many begin nothing, or 0.
-pub fn start_after<M: Framed>(
+/// What bytes say of the message that they begin with.
+#[derive(Clone, Copy, Debug)]
+pub enum Look<P> {
+    Found(FoundHead<P>),
+    /// No more bytes make a message.
+    Refused(WireRefusal),
+    /// Nothing so far, and where they end.
+    Open(Line),
+}
+
+/// What these bytes say, of which the first so many say nothing, or are none, and end here.
+pub fn look_at<M: Framed>(
     bytes: &[u8],
     had: usize,
+    line: Line,
     fields: &mut [HeaderSpan],
-) -> Start<M::Parts>
+) -> Look<M::Parts>
     requires places { length fields.old ≡ 66 }
     requires within { had ≤ length bytes.now }
+    requires ends { EndsIn had (take had bytes.now) line }
     requires known { 0 < had → IsOpen M.is_at M.is_hopeless (front (take had bytes.now)) }
     requires short { 0 < had → is_cut (take had bytes.now) ≡ false }
-    ensures { Starts M.is_at M.is_hopeless M.are_parts (front bytes.now) result }
+    ensures { Looks M.is_at M.is_hopeless M.are_parts bytes.now result }
 {
-    if had > 0 && !is_front_cut(bytes) && M::goes_on(bytes, had) {
-        return Start::Open;
+    let line = follow(bytes, had, line);
+    if bytes.len() < MOST_BYTES && M::goes_on(bytes, had, line) {
+        return Look::Open(line);
     }
-    start_of::<M>(bytes, fields)
+    match start_of::<M>(bytes, fields) {
+        Start::Found(found) => Look::Found(found),
+        Start::Hopeless => Look::Refused(WireRefusal::BadHead),
+        Start::Open => if is_front_cut(bytes) {
+            Look::Refused(WireRefusal::TooLong { head: true })
+        } else {
+            Look::Open(line_of(bytes))
+        },
+    }
 }
