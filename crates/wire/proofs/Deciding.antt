@@ -1,5 +1,5 @@
 -- What the bytes held decide, read on.
-use Rattle.std.proofs.Common.{◌≡◌, ℕ, ◌+◌, ◌-◌, ◌<◌, ◌≤◌, ◌⊎◌, inl, inr, ⊎_elim, Bool, true, false, List, [], ◌∷◌, ◌++◌, length, take, drop, Option, Some, None, cond, codes, nat_le, Result, Ok, Err, arith, refl, sym, ◌∙◌, ap, subst, append_assoc, length-append}
+use Rattle.std.proofs.Common.{◌≡◌, ℕ, ◌+◌, ◌<◌, ◌≤◌, inl, inr, ⊎_elim, Bool, true, false, List, [], ◌∷◌, ◌++◌, length, take, drop, Option, Some, None, cond, codes, nat_le, Ok, Err, arith, refl, sym, ◌∙◌, ap, subst, append_assoc, length-append}
 use Rattle.std.proofs.lemmas.Bool.{cases_lt}
 use Rattle.std.proofs.lemmas.List.{append-nil, length-take, take-append-drop}
 use Rattle.edge.specs.Connections.{Connection}
@@ -8,8 +8,7 @@ use Rattle.wire.specs.Fields.{Named, body_length, has_field, judged, length_afte
 use Rattle.wire.specs.Front.{front, is_cut}
 use Rattle.wire.specs.Heads.{Begins, Head, Whole, More, Bad}
 use Rattle.wire.specs.Held.{HasTaken}
-use Rattle.wire.specs.Starts.{IsFound, Starts}
-use Rattle.wire.specs.declared.framed.Start.TheVariants as start
+use Rattle.wire.specs.Starts.{IsFound, IsOpen}
 use Rattle.wire.specs.declared.framed.FoundHead.{FoundHead}
 use Rattle.wire.specs.declared.refusal.WireRefusal.{WireRefusal}
 use Rattle.wire.specs.declared.refusal.WireRefusal.TheVariants.{BadHead, TooLong, Chunked}
@@ -88,10 +87,10 @@ module _ {M P : Type 0} (At : List ℕ → Head M → Type 0) (Hopeless : List �
   open_is_more bytes none hopes cut = inr (none, cut, hopes)
 
   -- the same of what a look at the bytes found
-  pub open_start : (bytes near seen : List ℕ) (cut : Bool) → near ≡ bytes → seen ≡ bytes → Starts At Hopeless Parts (front near) start.Open → cut ≡ is_cut seen → cut ≡ false → Begins At Hopeless bytes More
-  open_start bytes near seen cut same also starts is whole =
-      let here = subst (λ b. Starts At Hopeless Parts (front b) start.Open) same starts in
-      open_is_more bytes here.0 here.1 (ap is_cut (sym also) ∙ sym is ∙ whole)
+  pub looked_more : (bytes near : List ℕ) → near ≡ bytes → IsOpen At Hopeless (front near) → is_cut near ≡ false → Begins At Hopeless bytes More
+  looked_more bytes near same looked whole =
+      let here = subst (λ b. IsOpen At Hopeless (front b)) same looked in
+      open_is_more bytes here.0 here.1 (ap is_cut (sym same) ∙ whole)
 
   -- a head and its body are a whole message
   pub ready_whole : (bytes : List ℕ) (found : FoundHead P) (count : ℕ) (ready : IsReady At Parts bytes found count) (message : M) → message ≡ ready.head.head.message (take count (drop found.size bytes)) → Begins At Hopeless bytes (Whole message (found.size + count))

@@ -1,5 +1,5 @@
 -- A front only grows, and a cut one stays.
-use Rattle.std.proofs.Common.{◌≡◌, ◌≢◌, ℕ, zero, suc, ◌+◌, ◌-◌, ◌<◌, ◌≤◌, ◌⊎◌, inl, inr, ⊎_elim, Bool, true, false, cond, ◌||◌, nat_le, ◌==◌, List, [], ◌∷◌, ◌++◌, length, take, drop, min, get_or, add-one, arith, rules, refl, sym, ◌∙◌, ap, subst, append_assoc, length-append, true≢false}
+use Rattle.std.proofs.Common.{◌≡◌, ℕ, zero, suc, ◌+◌, ◌-◌, ◌<◌, ◌≤◌, ◌⊎◌, inl, inr, ⊎_elim, Bool, true, false, cond, ◌==◌, List, [], ◌∷◌, ◌++◌, length, take, drop, min, get_or, arith, refl, sym, ◌∙◌, ap, append_assoc, length-append, true≢false}
 use Rattle.std.proofs.lemmas.List.{append-nil, length-take, nil_from_length, take_all, take-append-drop, take-append-le, take-take}
 use Rattle.std.proofs.lemmas.List.Sums.{sum_by-cons}
 use Rattle.std.proofs.lemmas.Grind.{common_steps}
@@ -51,7 +51,7 @@ pub record IsShort (bytes : List ℕ) : Type 0 where
 short_or_cut : (b : List ℕ) → IsShort b ⊎ ((16384 ≤ length b) ⊎ (66 ≤ line_feeds b))
 short_or_cut b = ⊎_elim (λ s. ⊎_elim (λ l. inl (record { size = s; lines = l })) (λ l. inr (inr l)) (cases_lt (line_feeds b) 66)) (λ s. inr (inl s)) (cases_lt (length b) 16384)
 
-front_short : (b : List ℕ) → IsShort b → front b ≡ b
+pub front_short : (b : List ℕ) → IsShort b → front b ≡ b
 unfolding front
 front_short b h = ap (λ k. take 16384 (take k b)) (up_to_all b 66 h.lines) ∙ ap (take 16384) (take_all (length b) b (omega arith)) ∙ take_all 16384 b (omega (arith, h.size))
 
@@ -185,3 +185,8 @@ front_near b end is few =
     let within = front_within b in
     let none : length g.0 ≡ 0 = omega (arith, ap length whole, length-append (take end b) g.0, long, is, within.0, within.1) in
     whole ∙ ap (λ x. take end b ++ x) (nil_from_length g.0 none) ∙ append-nil (take end b)
+
+-- bytes short of both bounds are not cut
+pub short_is_open : (b : List ℕ) → length b < 16384 → line_feeds b < 66 → is_cut b ≡ false
+unfolding is_cut
+short_is_open b size lines = grind arith

@@ -1,15 +1,14 @@
 -- A hopeless front of a request stays hopeless.
-use Rattle.std.proofs.Common.{◌≡◌, ◌≢◌, ℕ, ◌+◌, ◌<◌, ◌≤◌, ◌⊎◌, inl, inr, ⊎_elim, Bool, true, false, List, [], ◌∷◌, ◌++◌, length, IsTrue, codes, arith, rules, refl, sym, ◌∙◌, ap, subst, append_assoc, lit≤}
-use Rattle.std.specs.Prelude.{IsUtf8}
+use Rattle.std.proofs.Common.{◌≡◌, ℕ, ◌⊎◌, inl, inr, ⊎_elim, List, [], ◌∷◌, ◌++◌, IsTrue, codes, refl, sym, ◌∙◌, ap, subst, append_assoc, lit≤}
 use Rattle.std.proofs.lemmas.List.{append-nil}
 use Rattle.std.proofs.lemmas.List.Elements.{All-nil, All-cons, All-head, All-tail}
-use Rattle.httparse.specs.Grammar.{AllPass, EndsInTarget, Field, HasNoRequest, IsField, IsRequestHead, IsToken, LineEnd, crlf, NeverHasRequest, ReadsRequest, RequestHead, is_uri_byte, print_blank, print_request}
+use Rattle.httparse.specs.Grammar.{AllPass, EndsInTarget, IsField, IsRequestHead, IsToken, LineEnd, crlf, NeverHasRequest, RequestHead, is_uri_byte, print_blank, print_request}
 use Rattle.httparse.specs.Ascii.{space}
 use Rattle.httparse.proofs.OnLiterals.{httparse_on_literals}
 use Rattle.wire.specs.Requests.{IsHopelessRequest}
 
 -- one of two ways in which joined lists may be cut elsewhere
-split : (a x p q : List ℕ) → a ++ x ≡ p ++ q → ((r : List ℕ) × (p ≡ a ++ r) × (x ≡ r ++ q)) ⊎ ((r : List ℕ) × (a ≡ p ++ r) × (r ++ x ≡ q))
+pub split : (a x p q : List ℕ) → a ++ x ≡ p ++ q → ((r : List ℕ) × (p ≡ a ++ r) × (x ≡ r ++ q)) ⊎ ((r : List ℕ) × (a ≡ p ++ r) × (r ++ x ≡ q))
 split [] x p q e = inl (p, refl, e)
 split (b ∷ a) x [] q e = inr (b ∷ a, refl, e)
 split (b ∷ a) x (c ∷ p) q e =

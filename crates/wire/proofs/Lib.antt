@@ -16,3 +16,7 @@ pub mod Deciding
 pub mod Reading
 pub mod RequestBack
 pub mod ResponseBack
+pub mod Going
+pub mod RequestGoing
+pub mod ResponseGoing
+pub mod Following

@@ -1,8 +1,8 @@
 -- Bytes begin with one thing at most.
-use Rattle.std.proofs.Common.{◌≡◌, ℕ, ◌+◌, ◌<◌, ◌≤◌, ◌⊎◌, inl, inr, ⊎_elim, Bool, true, false, List, [], ◌∷◌, length, take, drop, Result, Ok, Err, arith, refl, sym, ◌∙◌, ap, true≢false}
+use Rattle.std.proofs.Common.{◌≡◌, ℕ, ◌+◌, ⊎_elim, false, List, take, drop, Result, Ok, Err, arith, refl, sym, ◌∙◌, ap, true≢false}
 use Rattle.wire.specs.Front.{front, is_cut}
-use Rattle.wire.specs.Fields.{Named, body_length}
-use Rattle.wire.specs.Heads.{AreHeads, Begins, Head, IsPart, IsWhole, Look, Whole, Bad, More, HasNone, RefusesFront}
+use Rattle.wire.specs.Fields.{body_length}
+use Rattle.wire.specs.Heads.{AreHeads, Begins, Head, IsWhole, Look, Whole, Bad, More, RefusesFront}
 use Rattle.wire.specs.declared.refusal.WireRefusal.{WireRefusal}
 use Rattle.wire.specs.declared.refusal.WireRefusal.TheVariants.{BadHead, TooLong, Chunked, ReadFault, CutShort, OutOfMemory}
 

@@ -1,11 +1,11 @@
 -- One call of a reader, from what was filled and what was decided.
-use Rattle.std.proofs.Common.{◌≡◌, ◌≢◌, ℕ, ◌+◌, ◌≤◌, Bool, true, false, List, [], ◌∷◌, ◌++◌, length, take, drop, Option, Some, None, Result, Ok, Err, option_map, arith, refl, sym, ◌∙◌, ap, subst, append_assoc}
+use Rattle.std.proofs.Common.{◌≡◌, ℕ, ◌+◌, Bool, true, false, List, ◌++◌, length, take, drop, Option, Some, Result, Ok, Err, option_map, refl, sym, ◌∙◌, ap, subst, append_assoc}
 use Rattle.std.proofs.lemmas.List.{append-nil, drop-append-le}
-use Rattle.std.specs.Io.KnownBytes.{Consumes, IsAtEnd}
+use Rattle.std.specs.Io.KnownBytes.{Consumes}
 use Rattle.edge.specs.Connections.{Connection, after_read}
 use Rattle.wire.specs.Decisions.{HasFilled, IsOfBytes, IsReady}
 use Rattle.wire.specs.Heads.{Begins, Decides, Head, Look, Whole, Bad, More}
-use Rattle.wire.specs.Held.{AnswersOrEnds, AnswersStream, HasRead, Held, Reads, ReadsOrEnds, UnlessRefused, is_read_fault}
+use Rattle.wire.specs.Held.{AnswersStream, HasRead, Held, Reads, UnlessRefused, is_read_fault}
 use Rattle.wire.specs.declared.framed.FoundHead.{FoundHead}
 use Rattle.wire.specs.declared.refusal.WireRefusal.{WireRefusal}
 use Rattle.wire.specs.declared.refusal.WireRefusal.TheVariants.{BadHead, TooLong, Chunked, ReadFault, CutShort, OutOfMemory}

@@ -1,5 +1,5 @@
 -- A request that was written is read as the same, whatever follows.
-use Rattle.std.proofs.Common.{◌≡◌, ◌<◌, ◌≤◌, ◌+◌, ◌^◌, ◌==◌, ℕ, List, [], ◌∷◌, ◌++◌, length, take, drop, map, All, reverse, option_and_then, ◌*◌, ◌/◌, ◌%◌, IsTrue, Bool, true, false, true≢false, cond, ◌&&◌, ◌-◌, nat_le, nat_lt, codes, decimal, Option, Some, None, Result, Ok, Err, refl, ap, sym, ◌∙◌, subst, arith, append_assoc, append-nil, lit≤, length-append}
+use Rattle.std.proofs.Common.{◌≡◌, ◌<◌, ◌≤◌, ◌+◌, ◌^◌, ◌==◌, ℕ, List, [], ◌∷◌, ◌++◌, length, take, drop, map, All, reverse, option_and_then, ◌*◌, ◌/◌, ◌%◌, IsTrue, Bool, true, false, true≢false, cond, ◌&&◌, ◌-◌, nat_le, nat_lt, codes, decimal, Option, Some, None, Ok, Err, refl, ap, sym, ◌∙◌, subst, arith, append_assoc, append-nil, lit≤, length-append}
 use Rattle.std.proofs.lemmas.Bool.Decides.{nat_tests}
 use Rattle.std.proofs.lemmas.Grind.{reverse_onto}
 use Rattle.std.proofs.lemmas.List.{drop-append-le, take-append-le, take_all, drop_all}

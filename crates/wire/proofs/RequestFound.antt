@@ -1,17 +1,15 @@
 -- What the parser finds of a request is what the reader asks for.
-use Rattle.std.proofs.Common.{◌≡◌, ℕ, ◌≤◌, ◌==◌, ◌||◌, Bool, List, ◌++◌, length, take, drop, map, codes, Result, arith, refl, sym, ◌∙◌, ap}
+use Rattle.std.proofs.Common.{◌≡◌, ℕ, ◌==◌, ◌||◌, Bool, List, ◌++◌, take, drop, map, codes, Result, arith, refl, ◌∙◌, ap}
 use Rattle.std.proofs.lemmas.List.{length-take}
-use Rattle.httparse.specs.Grammar.{RequestHead, print_request}
-use Rattle.httparse.specs.Spans.{IsRequestOf, IsRequestWithin, IsWithin, header_bytes, name_and_value}
+use Rattle.httparse.specs.Grammar.{print_request}
+use Rattle.httparse.specs.Spans.{IsRequestOf, IsRequestWithin, IsWithin, header_bytes}
 use Rattle.httparse.specs.declared.spans.HeaderSpan.{HeaderSpan}
 use Rattle.httparse.specs.declared.spans.RequestSpans.{RequestSpans}
-use Rattle.httparse.specs.declared.spans.Span.{Span}
 use Rattle.wire.specs.Fields.{body_length, has_value}
 use Rattle.wire.specs.RequestParts.{AreRequestParts}
 use Rattle.wire.specs.Requests.{IsRequestHeadAt, read_request_head}
 use Rattle.wire.specs.Starts.{IsFound}
 use Rattle.wire.specs.declared.refusal.WireRefusal.{WireRefusal}
-use Rattle.wire.specs.declared.framed.FoundHead.{FoundHead}
 use Rattle.wire.proofs.Found.{first_is}
 use Rattle.wire.proofs.Spans.{span_first}
 

@@ -1,5 +1,5 @@
 -- Heads of requests are heads as the reader asks of them.
-use Rattle.std.proofs.Common.{◌≡◌, ℕ, ◌+◌, ◌<◌, ◌≤◌, List, [], ◌∷◌, ◌++◌, length, map, IsTrue, codes, arith, refl, sym, ◌∙◌, ap, subst, length-append}
+use Rattle.std.proofs.Common.{◌≡◌, ℕ, ◌<◌, ◌≤◌, List, [], ◌++◌, length, IsTrue, codes, arith, refl, sym, ◌∙◌, ap, subst, length-append}
 use Rattle.std.proofs.lemmas.List.{append-nil}
 use Rattle.std.proofs.lemmas.List.Elements.{All-nil, All-cons}
 use Rattle.httparse.specs.Grammar.{IsToken, LineEnd, crlf, lf, ReadsRequest, RequestHead, is_token_byte, print_end, print_request, print_section}

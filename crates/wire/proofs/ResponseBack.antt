@@ -1,5 +1,5 @@
 -- A response that was written is read as the same, whatever follows.
-use Rattle.std.proofs.Common.{◌≡◌, ◌<◌, ◌≤◌, ◌+◌, ◌-◌, ◌*◌, ◌/◌, ◌%◌, ◌^◌, ◌==◌, ◌&&◌, ℕ, zero, suc, List, [], ◌∷◌, ◌++◌, length, take, drop, map, reverse, option_and_then, All, IsTrue, IfSome, Bool, true, false, cond, nat_le, nat_lt, codes, decimal, unwrap_or, Option, Some, None, Result, Ok, Err, refl, ap, sym, ◌∙◌, subst, arith, append_assoc, append-nil, lit≤, length-append}
+use Rattle.std.proofs.Common.{◌≡◌, ◌<◌, ◌≤◌, ◌+◌, ◌*◌, ◌/◌, ◌%◌, ◌^◌, ◌==◌, ◌&&◌, ℕ, zero, suc, List, [], ◌∷◌, ◌++◌, length, take, drop, map, option_and_then, All, IsTrue, IfSome, Bool, true, false, cond, nat_le, nat_lt, codes, decimal, unwrap_or, Option, Some, None, Ok, Err, refl, ap, sym, ◌∙◌, subst, arith, append_assoc, append-nil, lit≤, length-append}
 use Rattle.std.proofs.lemmas.Bool.{and_parts}
 use Rattle.std.proofs.lemmas.Bool.Decides.{Decides-below_and, nat_tests}
 use Rattle.std.proofs.lemmas.Fmt.{length-decimal-le}
@@ -25,7 +25,7 @@ use Rattle.wire.specs.Texts.{body_lines, body_of, close_line, content_type, line
 use Rattle.wire.specs.declared.message.HttpResponse.{HttpResponse}
 use Rattle.wire.specs.declared.refusal.WireRefusal.TheVariants.{TooLong}
 use Rattle.wire.proofs.Fronts.{front_has, line_feeds-append}
-use Rattle.wire.proofs.RequestBack.{digits_pass, drop_front, field, length-line, length_reads, line_feeds-line, no_feeds, passing, token, trimmed_decimal, valued}
+use Rattle.wire.proofs.RequestBack.{digits_pass, drop_front, field, length-line, length_reads, line_feeds-line, no_feeds, passing, trimmed_decimal, valued}
 
 pub close_fields : Bool → List Field
 close_fields true = field (codes "Connection") (codes "close") ∷ []

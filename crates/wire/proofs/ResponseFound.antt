@@ -2,8 +2,8 @@
 use Rattle.std.proofs.Common.{◌≡◌, ℕ, ◌≤◌, List, ◌++◌, length, take, drop, map, Option, Some, None, Result, arith, refl, sym, ◌∙◌, ap, subst}
 use Rattle.std.specs.Prelude.{IsUtf8}
 use Rattle.std.proofs.lemmas.List.{length-take}
-use Rattle.httparse.specs.Grammar.{ResponseHead, print_response, status_code}
-use Rattle.httparse.specs.Spans.{IsResponseOf, IsResponseWithin, IsWithin, header_bytes, name_and_value, span_bytes}
+use Rattle.httparse.specs.Grammar.{print_response}
+use Rattle.httparse.specs.Spans.{IsResponseOf, IsResponseWithin, header_bytes}
 use Rattle.httparse.specs.declared.spans.HeaderSpan.{HeaderSpan}
 use Rattle.httparse.specs.declared.spans.ResponseSpans.{ResponseSpans}
 use Rattle.httparse.specs.declared.spans.Span.{Span}
@@ -12,7 +12,6 @@ use Rattle.wire.specs.ResponseParts.{AreResponseParts, IsText, text_at}
 use Rattle.wire.specs.Responses.{IsResponseHeadAt, location_in, read_response_head}
 use Rattle.wire.specs.Starts.{IsFound}
 use Rattle.wire.specs.declared.refusal.WireRefusal.{WireRefusal}
-use Rattle.wire.specs.declared.framed.FoundHead.{FoundHead}
 use Rattle.wire.proofs.Found.{first_is}
 use Rattle.wire.proofs.Spans.{span_first}
 

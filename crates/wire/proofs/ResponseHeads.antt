@@ -1,9 +1,9 @@
 -- Heads of responses are heads as the reader asks of them.
-use Rattle.std.proofs.Common.{◌≡◌, ℕ, ◌+◌, ◌<◌, ◌≤◌, List, [], ◌∷◌, ◌++◌, length, map, None, IsTrue, codes, arith, refl, sym, ◌∙◌, ap, subst, append_assoc, length-append, lit≤}
+use Rattle.std.proofs.Common.{◌≡◌, ℕ, ◌<◌, ◌≤◌, List, [], ◌∷◌, ◌++◌, length, None, IsTrue, arith, refl, sym, ◌∙◌, ap, subst, append_assoc, length-append, lit≤}
 use Rattle.std.proofs.lemmas.List.{append-nil}
 use Rattle.std.proofs.lemmas.List.Elements.{All-nil, All-cons}
 use Rattle.std.specs.Char.{is_ascii_digit}
-use Rattle.httparse.specs.Grammar.{IsField, IsResponseHead, crlf, NeverHasResponse, ReadsResponse, ResponseHead, is_value_byte, print_end, print_response, print_section}
+use Rattle.httparse.specs.Grammar.{IsField, IsResponseHead, crlf, ReadsResponse, ResponseHead, is_value_byte, print_end, print_response, print_section}
 use Rattle.httparse.proofs.GrammarLemmas.{ReadsResponse-append, response_unique}
 use Rattle.wire.specs.Heads.{AreHeads, Head}
 use Rattle.wire.specs.Responses.{IsHopelessResponse, IsResponseHeadAt, read_response_head}

@@ -1,5 +1,5 @@
 -- Spans that lie in the first bytes cover the same bytes there.
-use Rattle.std.proofs.Common.{◌≡◌, ℕ, ◌+◌, ◌-◌, ◌≤◌, List, length, take, drop, arith, refl, sym, ◌∙◌, ap}
+use Rattle.std.proofs.Common.{◌≡◌, ℕ, ◌+◌, ◌-◌, ◌≤◌, List, take, drop, arith, sym, ◌∙◌, ap}
 use Rattle.std.proofs.lemmas.List.{drop-take, take-take}
 use Rattle.httparse.specs.Spans.{IsWithin, span_bytes}
 use Rattle.httparse.specs.declared.spans.Span.{Span}

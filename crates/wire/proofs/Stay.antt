@@ -1,10 +1,9 @@
 -- What decides decides whatever follows, and what does not is short.
-use Rattle.std.proofs.Common.{◌≡◌, ◌≢◌, ℕ, ◌+◌, ◌-◌, ◌*◌, ◌<◌, ◌≤◌, ◌⊎◌, inl, inr, ⊎_elim, Bool, true, false, cond, nat_le, List, [], ◌∷◌, ◌++◌, length, take, drop, Option, Some, None, codes, Result, Ok, Err, arith, refl, sym, ◌∙◌, ap, subst, append_assoc, length-append, length-drop}
+use Rattle.std.proofs.Common.{◌≡◌, ◌≢◌, ℕ, ◌+◌, ◌<◌, ◌≤◌, inl, inr, ⊎_elim, Bool, true, false, cond, nat_le, List, [], ◌++◌, length, take, drop, Option, Some, None, codes, Ok, Err, arith, refl, sym, ◌∙◌, ap, subst, length-append, length-drop}
 use Rattle.std.proofs.lemmas.List.{take-append-le, drop-append-le}
-use Rattle.std.proofs.lemmas.Grind.{common_steps}
 use Rattle.wire.specs.Front.{front, is_cut}
 use Rattle.wire.specs.Fields.{Named, body_length, has_field, judged, length_after}
-use Rattle.wire.specs.Heads.{AreHeads, Begins, Decides, Head, IsPart, IsWhole, Look, Whole, Bad, More, HasNone, RefusesFront}
+use Rattle.wire.specs.Heads.{AreHeads, Begins, Decides, Head, IsWhole, Look, Whole, Bad, More, HasNone, RefusesFront}
 use Rattle.wire.specs.declared.refusal.WireRefusal.{WireRefusal}
 use Rattle.wire.specs.declared.refusal.WireRefusal.TheVariants.{BadHead, TooLong, Chunked, ReadFault, CutShort, OutOfMemory}
 use Rattle.wire.proofs.Fronts.{front_grows, front_within, cut_stays, open_is_short}

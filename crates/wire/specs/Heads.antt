@@ -1,5 +1,5 @@
 -- What bytes begin with, for requests and for responses: a message, what no more bytes make one, or neither so far (RFC 9112; the bounds and their order are this product's own).
-use Rattle.std.specs.Prelude.{ℕ, ◌+◌, ◌≡◌, ◌≢◌, ◌++◌, ◌≤◌, ◌<◌, ◌⊎◌, Bool, true, false, List, [], length, take, drop, Result, Ok, Err}
+use Rattle.std.specs.Prelude.{ℕ, ◌+◌, ◌≡◌, ◌≢◌, ◌++◌, ◌≤◌, ◌<◌, ◌⊎◌, true, false, List, [], length, take, drop, Ok, Err}
 use Rattle.wire.specs.Front.{front, is_cut}
 use Rattle.wire.specs.Fields.{Named, body_length}
 use Rattle.wire.specs.declared.refusal.WireRefusal.{WireRefusal}

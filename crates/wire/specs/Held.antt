@@ -1,5 +1,5 @@
 -- What a connection's reader holds, and what a call on it reads (RFC 9112 section 9.3; the bounds are this product's own).
-use Rattle.std.specs.Prelude.{ℕ, ◌<◌, ◌≡◌, ◌≢◌, Bool, true, false, List, [], ◌∷◌, ◌++◌, length, drop, Option, Some, None, Result, Ok, Err, ⊤, option_map}
+use Rattle.std.specs.Prelude.{ℕ, ◌≡◌, ◌≢◌, Bool, true, false, List, [], ◌++◌, length, drop, Option, Some, None, Result, Ok, Err, option_map}
 use Rattle.std.specs.Io.KnownBytes.{Consumes, IsAtEnd}
 use Rattle.edge.specs.Connections.{Connection, after_read}
 use Rattle.wire.specs.Heads.{Look, Whole, Bad, More}

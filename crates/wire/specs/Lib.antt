@@ -8,8 +8,10 @@ pub mod Starts
 pub mod RequestParts
 pub mod ResponseParts
 pub mod Target
+pub mod FieldLines
 pub mod Laws
 pub mod Buffers
 pub mod Decisions
 pub mod Texts
 pub mod ReadBack
+pub mod Looks

@@ -1,10 +1,10 @@
 -- What is written reads back (this product's own).
-use Rattle.std.specs.Prelude.{ℕ, ◌+◌, ◌≡◌, ◌<◌, ◌≤◌, ◌++◌, Bool, false, List, length, codes, Option, IsUtf8, IfSome, reverse}
+use Rattle.std.specs.Prelude.{ℕ, ◌+◌, ◌≡◌, ◌<◌, ◌≤◌, ◌++◌, false, List, length, codes, Option, IsUtf8, IfSome, reverse}
 use Rattle.httparse.specs.Grammar.{AllPass, is_uri_byte, is_value_byte, skip_ows}
 use Rattle.wire.specs.Heads.{Whole}
 use Rattle.wire.specs.Requests.{RequestLooks}
 use Rattle.wire.specs.Responses.{ResponseLooks}
-use Rattle.wire.specs.Texts.{body_of, request_text, response_text}
+use Rattle.wire.specs.Texts.{body_of}
 
 -- a host that may stand as a value, a path that may stand as a target, both short enough for a head, and a body that is not too long
 pub record AreFit (host path body : List ℕ) : Type 0 where

@@ -15,10 +15,14 @@ pub record IsFound {M P : Type 0} (IsAt : List ℕ → Head M → Type 0) (ArePa
   pub follows : found.body ≡ body_length head.fields
   pub parts_are : AreParts found.parts (take found.size near) head
 
+-- no head stands there, and more bytes could make one
+abbrev pub IsOpen : {M : Type 0} → (List ℕ → Head M → Type 0) → (List ℕ → Type 0) → List ℕ → Type 0
+IsOpen {M} IsAt IsHopeless near = ((head : Head M) → IsAt near head → ⊥) × (IsHopeless near → ⊥)
+
 -- what bytes begin with: a head, or none and whether more bytes could make one
 abbrev pub Starts : {M P : Type 0} → (List ℕ → Head M → Type 0) → (List ℕ → Type 0) → (P → List ℕ → Head M → Type 0) → List ℕ → Start P → Type 0
 Starts IsAt IsHopeless AreParts near (start.Found found) = IsFound IsAt AreParts near found
-Starts {M} IsAt IsHopeless AreParts near start.Open = ((head : Head M) → IsAt near head → ⊥) × (IsHopeless near → ⊥)
+Starts IsAt IsHopeless AreParts near start.Open = IsOpen IsAt IsHopeless near
 Starts {M} IsAt IsHopeless AreParts near start.Hopeless = ((head : Head M) → IsAt near head → ⊥) × IsHopeless near
 
 -- where a head was found it is one

@@ -1,7 +1,6 @@
 -- The texts of the messages that are written (RFC 9112 sections 3 to 6; which fields and their order are this product's own).
-use Rattle.std.specs.Prelude.{ℕ, ◌≤◌, ◌<◌, ◌==◌, ◌+◌, ◌&&◌, Bool, true, false, List, [], ◌∷◌, ◌++◌, length, codes, decimal, unwrap_or, nat_le, nat_lt, if◌then◌else◌, Option, Some, None, IsUtf8, IfSome}
+use Rattle.std.specs.Prelude.{ℕ, ◌==◌, Bool, true, false, List, [], ◌∷◌, ◌++◌, length, codes, decimal, unwrap_or, nat_lt, if◌then◌else◌, Option, Some, None}
 use Rattle.http.specs.StatusCode.{code_digits, reason_phrase}
-use Rattle.httparse.specs.Grammar.{AllPass, is_ows, is_uri_byte, is_value_byte, skip_ows}
 
 -- a line of a head
 unfoldable pub line : List ℕ → List ℕ → List ℕ

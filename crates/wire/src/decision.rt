@@ -10,8 +10,8 @@ ghost use Rattle.wire.specs.Held.{HasTaken};
 ghost use Rattle.wire.specs.Starts.{IsFound};
 
 use crate::buffer::Buffer;
-use crate::framed::{FoundHead, Framed, Start, start_of};
-use crate::front::is_front_cut;
+use crate::field_line::Line;
+use crate::framed::{FoundHead, Framed, Look, look_at};
 use crate::refusal::WireRefusal;
 use edge::{Failed, Source};
 use httparse::spans::HeaderSpan;
@@ -85,18 +85,18 @@ pub fn decide<M: Framed, S: Source>(
     ensures openings { S.openings source.new ≡ S.openings source.old }
     ensures failed_openings { S.failed_openings source.new ≡ S.failed_openings source.old }
 {
+    let mut had = 0;
+    let mut line = Line::Unknown;
     loop {
-        match start_of::<M>(buffer.bytes(), fields) {
-            Start::Found(found) => return match found.body {
+        match look_at::<M>(buffer.bytes(), had, line, fields) {
+            Look::Found(found) => return match found.body {
                 Ok(count) => with_body::<M, S>(buffer, found, count, source),
                 Err(refusal) => Ok(Decision::Refused(refusal)),
             },
-            Start::Hopeless => return Ok(Decision::Refused(WireRefusal::BadHead)),
-            Start::Open => {}
+            Look::Refused(refusal) => return Ok(Decision::Refused(refusal)),
+            Look::Open(end) => line = end,
         }
-        if is_front_cut(buffer.bytes()) {
-            return Ok(Decision::Refused(WireRefusal::TooLong { head: true }));
-        }
+        had = buffer.bytes().len();
         match buffer.read(source) {
             Ok(true) => {}
             Ok(false) => return Ok(Decision::Ended),

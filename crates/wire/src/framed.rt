@@ -1,10 +1,13 @@
 //! What the reader asks of a kind of message, and what stands at the front of some bytes.
-ghost use Rattle.std.specs.Prelude.{◌≡◌, ◌≤◌, ℕ, List, IfOk, length};
-ghost use Rattle.wire.specs.Front.{front, line_feeds};
+ghost use Rattle.std.specs.Prelude.{◌≡◌, ◌≢◌, ◌≤◌, ◌<◌, ℕ, List, IfOk, IsTrue, false, length, take};
+ghost use Rattle.wire.specs.Front.{front, is_cut, line_feeds};
 ghost use Rattle.wire.specs.Heads.{Head};
-ghost use Rattle.wire.specs.Starts.{FindsHead, Starts};
+ghost use Rattle.wire.specs.FieldLines.{EndsIn};
+ghost use Rattle.wire.specs.Looks.{Looks};
+ghost use Rattle.wire.specs.Starts.{FindsHead, IsOpen, Starts};
 
-use crate::front::{MOST_BYTES, MOST_LINES, count_lines, front_of};
+use crate::field_line::{Line, follow, line_of};
+use crate::front::{MOST_BYTES, MOST_LINES, count_lines, front_of, is_front_cut};
 use crate::refusal::WireRefusal;
 use httparse::spans::HeaderSpan;
 use std::alloc::{AllocError, Global};
@@ -43,6 +46,14 @@ pub trait Framed {
         ensures found { FindsHead is_at are_parts near.now result }
         ensures exact { line_feeds near.now ≤ 66 → Starts is_at is_hopeless are_parts near.now result };
 
+    /// Whether bytes that end within the line of a field decide nothing, as the first so many of them do not: it is only asked
+    /// whether it is known where they end.
+    fn goes_on(near: &[u8], had: usize, line: Line) -> bool
+        requires within { had ≤ length near.now }
+        requires ends { EndsIn had near.now line }
+        ensures known { IsTrue result → line ≢ Line.Unknown }
+        ensures exact { IsTrue result → IsOpen is_at is_hopeless (take had near.now) → IsOpen is_at is_hopeless near.now };
+
     /// The message that a head with these parts is with this body.
     fn message(
         alloc: Global,
@@ -67,5 +78,44 @@ pub fn start_of<M: Framed>(bytes: &[u8], fields: &mut [HeaderSpan]) -> Start<M::
         Start::Found(found) if count_lines(&near[..found.size]) < MOST_LINES => Start::Found(found),
         Start::Open if count_lines(near) < MOST_LINES => Start::Open,
         _ => M::parse(front_of(bytes), fields),
+    }
+}
+
+/// What bytes say of the message that they begin with.
+#[derive(Clone, Copy, Debug)]
+pub enum Look<P> {
+    Found(FoundHead<P>),
+    /// No more bytes make a message.
+    Refused(WireRefusal),
+    /// Nothing so far, and where they end.
+    Open(Line),
+}
+
+/// What these bytes say, of which the first so many say nothing, or are none, and end here.
+pub fn look_at<M: Framed>(
+    bytes: &[u8],
+    had: usize,
+    line: Line,
+    fields: &mut [HeaderSpan],
+) -> Look<M::Parts>
+    requires places { length fields.old ≡ 66 }
+    requires within { had ≤ length bytes.now }
+    requires ends { EndsIn had (take had bytes.now) line }
+    requires known { 0 < had → IsOpen M.is_at M.is_hopeless (front (take had bytes.now)) }
+    requires short { 0 < had → is_cut (take had bytes.now) ≡ false }
+    ensures { Looks M.is_at M.is_hopeless M.are_parts bytes.now result }
+{
+    let line = follow(bytes, had, line);
+    if bytes.len() < MOST_BYTES && M::goes_on(bytes, had, line) {
+        return Look::Open(line);
+    }
+    match start_of::<M>(bytes, fields) {
+        Start::Found(found) => Look::Found(found),
+        Start::Hopeless => Look::Refused(WireRefusal::BadHead),
+        Start::Open => if is_front_cut(bytes) {
+            Look::Refused(WireRefusal::TooLong { head: true })
+        } else {
+            Look::Open(line_of(bytes))
+        },
     }
 }

@@ -20,6 +20,7 @@
 mod buffer;
 mod conn;
 mod decision;
+mod field_line;
 mod framed;
 mod front;
 mod laws;

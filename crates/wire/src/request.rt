@@ -6,6 +6,7 @@ ghost use Rattle.wire.specs.RequestParts.{AreRequestParts};
 ghost use Rattle.wire.specs.Requests.{IsHopelessRequest, IsRequestHeadAt};
 ghost use Rattle.wire.specs.Starts.{IsFound};
 
+use crate::field_line::{Line, is_known};
 use crate::framed::{FoundHead, Framed, Start};
 use crate::length::{read_body_length, says};
 use crate::message::HttpRequest;
@@ -69,6 +70,10 @@ impl Framed for HttpRequest {
                 Start::Hopeless
             },
         }
+    }
+
+    fn goes_on(_near: &[u8], _had: usize, line: Line) -> bool {
+        is_known(line)
     }
 
     fn message(

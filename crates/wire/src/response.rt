@@ -5,6 +5,7 @@ ghost use Rattle.wire.specs.ResponseParts.{AreResponseParts, IsText, text_at};
 ghost use Rattle.wire.specs.Responses.{IsHopelessResponse, IsResponseHeadAt};
 ghost use Rattle.wire.specs.Starts.{IsFound};
 
+use crate::field_line::{Line, is_known};
 use crate::framed::{FoundHead, Framed, Start};
 use crate::length::read_body_length;
 use crate::location::find_location;
@@ -65,6 +66,10 @@ impl Framed for HttpResponse {
             Ok(Status::Partial) => Start::Open,
             Err(_) => Start::Hopeless,
         }
+    }
+
+    fn goes_on(_near: &[u8], _had: usize, line: Line) -> bool {
+        is_known(line)
     }
 
     fn message(

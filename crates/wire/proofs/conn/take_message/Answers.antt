@@ -1,4 +1,4 @@
-use Rattle.std.proofs.Common.{◌≡◌, ◌∙◌, ap, sym, take, drop}
+use Rattle.std.proofs.Common.{◌∙◌, ap, take, drop}
 use Rattle.wire.proofs.Deciding.{ready_parts, ready_whole}
 use Rattle.wire.proofs.conn.take_message.Goals as goal
 

@@ -1,4 +1,4 @@
-use Rattle.std.proofs.Common.{◌≡◌, ◌∙◌, Result, Ok, true, false, true≢false, ap, arith, refl, sym}
+use Rattle.std.proofs.Common.{◌≡◌, ◌∙◌, Ok, true, false, true≢false, ap, arith, sym}
 use Rattle.wire.proofs.Deciding.{filled_body, found_fits, found_now, part_is_more}
 use Rattle.wire.proofs.decision.with_body.Goals as goal
 

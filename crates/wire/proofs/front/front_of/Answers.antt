@@ -1,5 +1,5 @@
-use Rattle.std.proofs.Common.{◌≡◌, ◌+◌, ◌≤◌, ◌∙◌, ap, arith, rules, drop, sym, subst}
-use Rattle.wire.specs.Front.{front, line_feeds, up_to}
+use Rattle.std.proofs.Common.{◌+◌, ◌≤◌, ap, arith, drop, sym, subst}
+use Rattle.wire.specs.Front.{line_feeds, up_to}
 use Rattle.wire.proofs.Fronts.{after_feed, after_other, front_ends, front_lines_few, front_open}
 use Rattle.wire.proofs.front.front_of.Goals as goal
 use Rattle.wire.proofs.front.front_of.Goals.{then-bytes-at-eq10+else-lines-eq0, else-bytes-at-eq10}

@@ -1,4 +1,4 @@
-use Rattle.std.proofs.Common.{◌≤◌, ◌-◌, ◌∙◌, ap, arith, drop, length, take}
+use Rattle.std.proofs.Common.{◌-◌, ◌∙◌, ap, arith, drop, length}
 use Rattle.std.proofs.lemmas.List.{length-take}
 use Rattle.wire.specs.Buffers.{Buffered}
 use Rattle.wire.proofs.Views.{dropped}

@@ -1,4 +1,4 @@
-use Rattle.std.proofs.Common.{◌≡◌, ◌∙◌, ◌-◌, ◌+◌, true, false, ap, arith, drop, length, rules, subst, sym, take}
+use Rattle.std.proofs.Common.{◌≡◌, ◌∙◌, ◌-◌, ◌+◌, true, ap, arith, drop, rules, take}
 use Rattle.edge.specs.Connections.{has_failed}
 use Rattle.wire.specs.Buffers.{Buffered}
 use Rattle.wire.proofs.Taking.{none_came, took_count, took_failed}

@@ -1,4 +1,4 @@
-use Rattle.std.proofs.Common.{◌≡◌, ◌∙◌, ◌+◌, false, ap, sym, refl, rules}
+use Rattle.std.proofs.Common.{◌∙◌, ◌+◌, false, ap, refl, rules}
 use Rattle.wire.specs.Decisions.{IsReady}
 use Rattle.wire.specs.Held.{Held}
 use Rattle.wire.proofs.Reading.{has_read, ready_exists, refuses}

@@ -1,4 +1,4 @@
-use Rattle.std.proofs.Common.{◌≡◌, ◌∙◌, subst, sym}
+use Rattle.std.proofs.Common.{◌∙◌, subst, sym}
 use Rattle.std.specs.Prelude.{IsUtf8}
 use Rattle.wire.proofs.Found.{token_is_text}
 use Rattle.wire.proofs.request.HttpRequestFramed.message.Goals as goal

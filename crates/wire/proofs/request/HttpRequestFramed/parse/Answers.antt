@@ -1,4 +1,4 @@
-use Rattle.std.proofs.Common.{◌≡◌, true, false, Result, Err, ap, refl}
+use Rattle.std.proofs.Common.{◌≡◌, true, false, Err, ap, refl}
 use Rattle.wire.proofs.Lines.{no_request, request_never}
 use Rattle.wire.proofs.request.HttpRequestFramed.parse.Goals as goal
 

@@ -1,4 +1,4 @@
-use Rattle.std.proofs.Common.{Result, Err, ap}
+use Rattle.std.proofs.Common.{Err, ap}
 use Rattle.wire.proofs.Lines.{no_response, response_never}
 use Rattle.wire.proofs.response.HttpResponseFramed.parse.Goals as goal
 
