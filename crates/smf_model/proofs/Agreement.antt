@@ -172,7 +172,7 @@ loss_quiet Unanswered = tt
 
 agrees_by_loss : KeptByLoss Agrees (λ o. Unit {0})
 agrees_by_loss = record {
-  sends = λ x t s flies unsent h. same_agrees t s (record s { sending = x }) refl refl refl h;
+  sends = λ x t s latest flies unsent h. same_agrees t s (record s { sending = x }) refl refl refl h;
   continues = λ t s h. same_agrees t s (record s { groups = map continue_entry s.groups }) refl refl refl h;
   breaks = λ now t s live h.
       let k = passes (closes_all now AbnormalRelease s) t s (closes_quiet now _ s.holdings) h in

@@ -149,7 +149,7 @@ answered_caused now session place number p (Some q) t s v is here final =
 -- the end of an attempt brings none
 none_by_loss : KeptByLoss (λ t s. NoReplies t) (λ o. Unit {0})
 none_by_loss = record {
-  sends = λ x t s flies unsent n. n;
+  sends = λ x t s latest flies unsent n. n;
   continues = λ t s n. n;
   breaks = λ now t s live n. both_none (closes_all now AbnormalRelease s) t (closes_none now _ s.holdings) n;
   gives_up = λ now t s landed unsent asked n. both_none (closes_all now AbnormalRelease s) t (closes_none now _ s.holdings) n;

@@ -56,7 +56,7 @@ replied_contents now (Refused problem) (Some q) t s a = closes_contents now _ s.
 
 contents_by_loss : KeptByLoss (λ t s. AreContents t) (λ o. Unit {0})
 contents_by_loss = record {
-  sends = λ x t s flies unsent a. a;
+  sends = λ x t s latest flies unsent a. a;
   continues = λ t s a. a;
   breaks = λ now t s live a. closes_contents now _ s.holdings t a;
   gives_up = λ now t s landed unsent asked a. closes_contents now _ s.holdings t a;

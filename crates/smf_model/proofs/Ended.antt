@@ -279,7 +279,7 @@ attempted_shut peer s h = record { shut = h.shut; released = λ q is r. at s.req
 
 shut_by_loss : KeptByLoss (λ t s. IsShut s) (λ o. Unit {0})
 shut_by_loss = record {
-  sends = λ x t s flies unsent h. record { shut = h.shut; released = h.released; over = h.over };
+  sends = λ x t s latest flies unsent h. record { shut = h.shut; released = h.released; over = h.over };
   continues = λ t s h. record { shut = h.shut; released = h.released; over = h.over };
   breaks = λ now t s live h. detached_with AbnormalRelease now s (without_traffic Aborting now AbnormalRelease s) live refl refl refl h;
   gives_up = λ now t s landed unsent asked h. over_shut (ended_for WasNotSent now s) refl (given_all WasNotSent (map (close_any now AbnormalRelease) s.holdings) (shut_all now AbnormalRelease s.holdings));

@@ -154,7 +154,7 @@ answered_entries now p (Some q) s h = again (replied now q.stamp p s) (with_peer
 
 entries_by_loss : KeptByLoss (λ t s. HasEntries s) (λ o. Unit {0})
 entries_by_loss = record {
-  sends = λ x t s flies unsent h. again s (record s { sending = x }) refl refl h;
+  sends = λ x t s latest flies unsent h. again s (record s { sending = x }) refl refl h;
   continues = λ t s h. mapped_entries s (record s { groups = map continue_entry s.groups }) continue_entry (λ x. x) refl (map_self s.holdings) (λ e. refl) (λ x. refl) h;
   breaks = λ now t s live h. traffic_entries Aborting now AbnormalRelease s h;
   gives_up = λ now t s landed unsent asked h. over_entries WasNotSent now s h;

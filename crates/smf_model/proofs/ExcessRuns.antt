@@ -72,7 +72,7 @@ reply_none now (Refused problem) (Some q) s = closes_none now _ s.holdings
 
 none_by_loss : KeptByLoss (λ t s. DropsNone t) (λ o. Unit {0})
 none_by_loss = record {
-  sends = λ x t s flies unsent n. n;
+  sends = λ x t s latest flies unsent n. n;
   continues = λ t s n. n;
   breaks = λ now t s live n. none_more (closes_all now AbnormalRelease s) t (closes_none now _ s.holdings) n;
   gives_up = λ now t s landed unsent asked n. none_more (closes_all now AbnormalRelease s) t (closes_none now _ s.holdings) n;

@@ -186,7 +186,7 @@ answered_on now p (Some q) s = replied_on now q.stamp p s
 
 on_by_loss : (s : Session) → KeptByLoss (λ t u. On s u) (λ o. Unit {0})
 on_by_loss s = record {
-  sends = λ x t u flies unsent h. h;
+  sends = λ x t u latest flies unsent h. h;
   continues = λ t u h. h;
   breaks = λ now t u live h. later_then s.holdings u.holdings _ h (without_on Aborting now AbnormalRelease u);
   gives_up = λ now t u landed unsent asked h. later_then s.holdings u.holdings _ h (ended_for_on NotSentWhy now u);

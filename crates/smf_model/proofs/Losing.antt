@@ -20,16 +20,16 @@ use Rattle.smf_model.specs.Trace.{closes_all, loss_move, breaking_moves, round_m
 
 -- a change of how far the sending is, going on without quota, breaking off, giving up, where something is known of the unanswered request
 pub record KeptByLoss (P : List Move → Session → Type 0) (known : Option Request → Type 0) : Type 0 where
-  pub sends : (x : Sending) (t : List Move) (s : Session) → x.in_flight ≡ s.sending.in_flight → x.unsent ≡ s.sending.unsent → P t s → P t (record s { sending = x })
+  pub sends : (x : Sending) (t : List Move) (s : Session) → x.latest ≡ s.sending.latest → x.in_flight ≡ s.sending.in_flight → x.unsent ≡ s.sending.unsent → P t s → P t (record s { sending = x })
   pub continues : (t : List Move) (s : Session) → P t s → P t (record s { groups = map continue_entry s.groups })
   pub breaks : (now : ℕ) (t : List Move) (s : Session) → is_live s.life ≡ true → P t s → P (closes_all now AbnormalRelease s ++ t) (without_traffic Aborting now AbnormalRelease s)
   pub gives_up : (now : ℕ) (t : List Move) (s : Session) → s.sending.in_flight ≡ false → s.sending.unsent ≡ true → known s.request → P t s → P (GivesUp ∷ (closes_all now AbnormalRelease s ++ t)) (ended_for NotSent now s)
 
 broken_kept : (P : List Move → Session → Type 0) (known : Option Request → Type 0) → KeptByLoss P known → (l : Life) (setup : SmfSetup) (now : ℕ) (t : List Move) (s : Session) → s.life ≡ l → P t s → P (breaking_moves now l s ++ t) (next_round setup now (broken_off now l s))
-broken_kept P known k Live setup now t s is h = k.sends _ (closes_all now AbnormalRelease s ++ t) (without_traffic Aborting now AbnormalRelease s) refl refl (k.breaks now t s (ap is_live is) h)
-broken_kept P known k Ending setup now t s is h = k.sends _ t s refl refl h
-broken_kept P known k Aborting setup now t s is h = k.sends _ t s refl refl h
-broken_kept P known k Ended setup now t s is h = k.sends _ t s refl refl h
+broken_kept P known k Live setup now t s is h = k.sends _ (closes_all now AbnormalRelease s ++ t) (without_traffic Aborting now AbnormalRelease s) refl refl refl (k.breaks now t s (ap is_live is) h)
+broken_kept P known k Ending setup now t s is h = k.sends _ t s refl refl refl h
+broken_kept P known k Aborting setup now t s is h = k.sends _ t s refl refl refl h
+broken_kept P known k Ended setup now t s is h = k.sends _ t s refl refl refl h
 
 round_kept : (P : List Move → Session → Type 0) (known : Option Request → Type 0) → KeptByLoss P known → (setup : SmfSetup) (now : ℕ) (t : List Move) (s : Session) → s.sending.in_flight ≡ false → known s.request → P t s → P (round_moves now s ++ t) (after_round setup now s)
 round_kept P known k setup now t s landed asked h = at (is_continue s.handling) (s.sending.unsent) refl
@@ -37,7 +37,7 @@ round_kept P known k setup now t s landed asked h = at (is_continue s.handling) 
     at : (c u : Bool) → s.sending.unsent ≡ u
         → P (cond c [] (cond u (GivesUp ∷ closes_all now AbnormalRelease s) (breaking_moves now s.life s)) ++ t)
         (cond c (record (next_round setup now s) { groups = map continue_entry s.groups }) (cond u (ended_for NotSent now s) (next_round setup now (broken_off now s.life s))))
-    at true u e = k.continues t (next_round setup now s) (k.sends _ t s refl refl h)
+    at true u e = k.continues t (next_round setup now s) (k.sends _ t s refl refl refl h)
     at false true e = k.gives_up now t s landed e asked h
     at false false e = broken_kept P known k s.life setup now t s refl h
 
@@ -46,7 +46,7 @@ moved_kept P known k setup now t s landed asked h = at (is_last s)
   where
     at : (b : Bool) → P (cond b (round_moves now s) [] ++ t) (cond b (after_round setup now s) (next_turn s))
     at true = round_kept P known k setup now t s landed asked h
-    at false = k.sends _ t s refl refl h
+    at false = k.sends _ t s refl refl refl h
 
 -- so does all of it, from the end itself on
 pub lost_kept : (P : List Move → Session → Type 0) (known : Option Request → Type 0) → KeptByLoss P known → (setup : SmfSetup) (now : ℕ) (loss : Loss) (t : List Move) (s : Session) → known s.request → P (loss_move loss ∷ t) (with_loss loss s) → P (lost_moves now loss s ++ t) (lost setup now loss s)

@@ -95,7 +95,7 @@ abandoned_stands now t s landed unsent asked h =
 
 stands_by_loss : KeptByLoss StandsAndSends (λ o. is_some o ≡ true)
 stands_by_loss = record {
-  sends = λ x t s flies unsent h. (same_stands t s (record s { sending = x }) refl refl refl (λ e. e) h.0, sends_by_loss.sends x t s flies unsent h.1);
+  sends = λ x t s latest flies unsent h. (same_stands t s (record s { sending = x }) refl refl refl (λ e. e) h.0, sends_by_loss.sends x t s latest flies unsent h.1);
   continues = λ t s h. (same_stands t s (record s { groups = map continue_entry s.groups }) refl refl refl (λ e. e) h.0, sends_by_loss.continues t s h.1);
   breaks = λ now t s live h. (any_stands now AbnormalRelease t s (without_traffic Aborting now AbnormalRelease s) refl refl refl (λ e. live_not_over s.life live) h.0, sends_by_loss.breaks now t s live h.1);
   gives_up = λ now t s landed unsent asked h. (abandoned_stands now t s landed unsent asked h, sends_by_loss.gives_up now t s landed unsent tt h.1);

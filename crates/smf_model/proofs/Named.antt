@@ -232,7 +232,7 @@ detached_reference false moment s = refl
 -- the end of an attempt
 named_by_loss : (setup : SmfSetup) (number : ℕ) → KeptByLoss (IsNamedSession setup number) (λ o. Unit {0})
 named_by_loss setup number = record {
-  sends = λ x t s flies unsent h. same_moves setup number t s (record s { sending = x }) refl h;
+  sends = λ x t s latest flies unsent h. same_moves setup number t s (record s { sending = x }) refl h;
   continues = λ t s h. same_moves setup number t s (record s { groups = map continue_entry s.groups }) refl h;
   breaks = λ now t s live h. left_named setup number t (closes_all now AbnormalRelease s ++ t) s (without_traffic Aborting now AbnormalRelease s) (closes_names now _ s.holdings t) refl h;
   gives_up = λ now t s landed unsent asked h.

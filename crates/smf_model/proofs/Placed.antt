@@ -15,6 +15,7 @@ use Rattle.smf_model.specs.declared.session.Place.TheVariants.{GivenUp}
 use Rattle.smf_model.specs.declared.session.Holding.{Holding}
 use Rattle.smf_model.specs.Settle.{is_open, is_waiting, close}
 use Rattle.smf_model.specs.Freeze.{move_oldest}
+use Rattle.smf_model.specs.Sent.{is_tried}
 use Rattle.smf_model.specs.Trace.{close_moves, closes_of, drop_moves, unanswered}
 use Rattle.smf_model.specs.Places.{place_closed, place_by, place_of, closed_holding, AreInOrder}
 use Rattle.smf_model.proofs.TraceLaws.{unclosed_unused}
@@ -157,14 +158,15 @@ pub record LeavesRequests (t u : List Move) : Type 0 where
   pub unanswered : unanswered u ≡ unanswered t
   pub flight : flight u ≡ flight t
   pub unsent : is_unsent u ≡ is_unsent t
+  pub tried : is_tried u ≡ is_tried t
 
 pub closes_leave : (m : ℕ) (closing : Holding → Option TriggerType) (t : List Move) (hs : List Holding) → LeavesRequests t (closes_of m closing hs ++ t)
-closes_leave m closing t [] = record { requests = refl; phase = refl; unanswered = refl; flight = refl; unsent = refl }
+closes_leave m closing t [] = record { requests = refl; phase = refl; unanswered = refl; flight = refl; unsent = refl; tried = refl }
 closes_leave m closing t (h ∷ hs) = at (closing h) (closes_leave m closing t hs)
   where
     at : (x : Option TriggerType) → LeavesRequests t (closes_of m closing hs ++ t) → LeavesRequests t ((close_moves m h x ++ closes_of m closing hs) ++ t)
     at None k = k
-    at (Some x) k = record { requests = k.requests; phase = k.phase; unanswered = k.unanswered; flight = k.flight; unsent = k.unsent }
+    at (Some x) k = record { requests = k.requests; phase = k.phase; unanswered = k.unanswered; flight = k.flight; unsent = k.unsent; tried = k.tried }
 
 -- drops
 
@@ -233,11 +235,11 @@ drops_left t next (h ∷ hs) most v o a = at (is_waiting h.place) (nat_lt 0 most
     at false b e k = record { valid = (k most).valid; each = (here most, (k most).each) }
 
 pub drops_leave : (t : List Move) (hs : List Holding) (most : ℕ) → LeavesRequests t (drop_moves most hs ++ t)
-drops_leave t [] most = record { requests = refl; phase = refl; unanswered = refl; flight = refl; unsent = refl }
+drops_leave t [] most = record { requests = refl; phase = refl; unanswered = refl; flight = refl; unsent = refl; tried = refl }
 drops_leave t (h ∷ hs) most = at (is_waiting h.place && nat_lt 0 most) (λ n. drops_leave t hs n)
   where
     at : (b : Bool) → ((n : ℕ) → LeavesRequests t (drop_moves n hs ++ t)) → LeavesRequests t (cond b (Drops h.container.lsn ∷ drop_moves (most - 1) hs) (drop_moves most hs) ++ t)
-    at true k = record { requests = (k (most - 1)).requests; phase = (k (most - 1)).phase; unanswered = (k (most - 1)).unanswered; flight = (k (most - 1)).flight; unsent = (k (most - 1)).unsent }
+    at true k = record { requests = (k (most - 1)).requests; phase = (k (most - 1)).phase; unanswered = (k (most - 1)).unanswered; flight = (k (most - 1)).flight; unsent = (k (most - 1)).unsent; tried = (k (most - 1)).tried }
     at false k = k most
 
 pub drops_unclosed : (t : List Move) (hs : List Holding) (most k : ℕ) → closed_as (drop_moves most hs ++ t) k ≡ closed_as t k

@@ -147,7 +147,7 @@ answered_reported now p (Some q) t u s is h =
 -- the end of an attempt
 reported_by_loss : (u : List Report) → KeptByLoss (λ t s. Reported t u s) (λ o. Unit {0})
 reported_by_loss u = record {
-  sends = λ x t s flies unsent h. quiet t t u s (record s { sending = x }) (record { holdings = same_self s.holdings; expected = λ group. refl; horizon = λ group. refl; horizons = λ group. refl }) h;
+  sends = λ x t s latest flies unsent h. quiet t t u s (record s { sending = x }) (record { holdings = same_self s.holdings; expected = λ group. refl; horizon = λ group. refl; horizons = λ group. refl }) h;
   continues = λ t s h. quiet t t u s (record s { groups = map continue_entry s.groups }) (continued_quiet t s) h;
   breaks = λ now t s live h. quiet t (closes_all now AbnormalRelease s ++ t) u s (without_traffic Aborting now AbnormalRelease s) (shut_quiet now AbnormalRelease t s (without_traffic Aborting now AbnormalRelease s) refl refl) h;
   gives_up = λ now t s landed unsent asked h.

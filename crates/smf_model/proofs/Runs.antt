@@ -49,7 +49,7 @@ same_answered now (Refused problem) (Some q) s = refl
 
 number_by_loss : (number : ℕ) → KeptByLoss (λ t s. s.number ≡ number) (λ o. Unit {0})
 number_by_loss number = record {
-  sends = λ x t s flies unsent h. h;
+  sends = λ x t s latest flies unsent h. h;
   continues = λ t s h. h;
   breaks = λ now t s live h. h;
   gives_up = λ now t s landed unsent asked h. h;

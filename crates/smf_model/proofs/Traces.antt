@@ -1,6 +1,6 @@
 -- After any events a session stands by its moves.
 use Rattle.std.proofs.Common.{◌≡◌, ℕ, ◌==◌, Bool, true, false, cond, List, [], ◌∷◌, ◌++◌, refl, sym, ◌∙◌, ap, subst, arith, append_assoc, append-nil}
-use Rattle.std.specs.Prelude.{Option, Some, None, Result, Ok, Err}
+use Rattle.std.specs.Prelude.{Option, Some, None, is_some, Result, Ok, Err}
 use Rattle.std.specs.List.{AllByRecursion}
 use Rattle.std.proofs.lemmas.Bool.{and_parts}
 use Rattle.units.specs.declared.request.Operation.TheVariants.{Create}
@@ -23,6 +23,7 @@ use Rattle.smf_model.specs.Settle.{entry_of, open_of}
 use Rattle.smf_model.specs.Machine.{machine_after, answer_of, session_of, touches, effect, finished, fresh, added_by, is_live}
 use Rattle.smf_model.specs.Trace.{trace, moves_of, moves_if, added_moves, finish_moves, effect_moves}
 use Rattle.smf_model.specs.History.{brought, history}
+use Rattle.smf_model.specs.Sent.{IsSentAsMoved}
 use Rattle.smf_model.specs.Places.{IsAsMoved, StandsAsMoved}
 use Rattle.smf_model.proofs.Runs.{number-next}
 use Rattle.smf_model.proofs.Lifting.{IsNew, With, IsKept, over_all}
@@ -84,7 +85,7 @@ pub fresh_whole : (setup : SmfSetup) (number : ℕ) (subscriber groups : List �
 fresh_whole setup number subscriber groups moment = (
   record { valid = tt; numbered = tt; each = tt; beyond = λ lsn l. refl; count = refl; unanswered = refl; asked = λ e. cc; idle = λ e on. refl },
   record { apart = apart_all groups [] (λ g. omega arith); entered = tt },
-  record { flight = refl; unsent = λ e. cc; asked = λ e. cc },
+  record { flight = refl; unsent = λ e. cc; asked = λ e. cc; tried = λ e. cc; mark = λ q is. cc },
 )
 
 pub created_whole : (setup : SmfSetup) (now number : ℕ) (subscriber groups : List ℕ) (moment : ℕ)
@@ -156,3 +157,17 @@ moved_with t (Some s) h = record { numbered = h.0.numbered; each = as_moved t s.
 
 pub moved_run : (setup : SmfSetup) (events : List SmfEvent) (number : ℕ) → StandsAsMoved (trace setup events number) (session_of number (machine_after setup events).sessions)
 moved_run setup events number = moved_with (trace setup events number) (session_of number (machine_after setup events).sessions) (whole_run setup events number)
+
+-- the sending of the unanswered request
+
+sent_with : (t : List Move) (o : Option Session) → With StandsWhole t o → IsSentAsMoved t o
+sent_with t None h = h
+sent_with t (Some s) h = record {
+  request = h.0.unanswered;
+  mark = λ q is. h.2.mark q is ∙ h.2.tried (ap is_some is);
+  in_flight = h.2.flight;
+  unsent = h.2.unsent;
+}
+
+pub sent_run : (setup : SmfSetup) (events : List SmfEvent) (number : ℕ) → IsSentAsMoved (trace setup events number) (session_of number (machine_after setup events).sessions)
+sent_run setup events number = sent_with (trace setup events number) (session_of number (machine_after setup events).sessions) (whole_run setup events number)

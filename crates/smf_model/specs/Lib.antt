@@ -25,3 +25,4 @@ pub mod Causes
 pub mod Excess
 pub mod Apart
 pub mod Ended
+pub mod Sent

@@ -6,6 +6,7 @@ ghost use Rattle.smf_model.specs.Machine.{machine_after, session_of, answer_of};
 ghost use Rattle.smf_model.specs.Forward.{IsLaterSession};
 ghost use Rattle.sessions.specs.Trace.{IsTrace};
 ghost use Rattle.smf_model.specs.Trace.{trace, moves_if, AgreesWith};
+ghost use Rattle.smf_model.specs.Sent.{IsSentAsMoved};
 ghost use Rattle.smf_model.specs.Places.{StandsAsMoved};
 ghost use Rattle.smf_model.specs.Exact.{ArePlacedExactly};
 ghost use Rattle.smf_model.specs.Contents.{AreContents};
@@ -49,6 +50,13 @@ pub fn moves_may_follow()
 pub fn places_by_moves()
     ensures places { (setup : SmfSetup) (events : List SmfEvent) (number : ℕ) → StandsAsMoved (trace setup events number) (session_of number (machine_after setup events).sessions) }
     ensures exact { (setup : SmfSetup) (events : List SmfEvent) (number : ℕ) → ArePlacedExactly (trace setup events number) (session_of number (machine_after setup events).sessions) }
+{}
+
+/// A law of events; it does nothing. After any events the unanswered request of a session is the newest as it was frozen, marked as a repeat
+/// exactly where it has had an attempt; an attempt is in flight where its end has not come; and the attempts that ended are all unsent where
+/// the moves say so (TS 32.290, 5.3.2 and failure handling).
+pub fn sending_by_moves()
+    ensures { (setup : SmfSetup) (events : List SmfEvent) (number : ℕ) → IsSentAsMoved (trace setup events number) (session_of number (machine_after setup events).sessions) }
 {}
 
 /// A law of events; it does nothing. What events did to a session stands whatever events come after them; so each request, its number and
