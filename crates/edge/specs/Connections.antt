@@ -52,6 +52,7 @@ abbrev pub left_of : List Connection → Option (List ℕ)
 left_of [] = None
 left_of (present ∷ earlier) = Some present.left
 
+-- what was written on the present connection
 abbrev pub written_of : List Connection → Option (List ℕ)
 written_of [] = None
 written_of (present ∷ earlier) = Some present.written
