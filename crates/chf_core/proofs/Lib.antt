@@ -37,3 +37,5 @@ mod Deciding
 mod SessionLines
 mod Switches
 mod InRange
+mod TextTables
+mod PlacedRequests

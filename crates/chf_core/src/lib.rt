@@ -31,6 +31,7 @@ mod decision;
 mod draft;
 mod effect;
 mod fits;
+mod found_requests;
 mod give_back;
 mod grants;
 mod histories;
@@ -50,6 +51,7 @@ mod session_laws;
 mod setup;
 mod subscription;
 mod target;
+mod text_table;
 mod trial;
 mod verdict;
 
