@@ -24,6 +24,7 @@
 #![tactic(auto)]
 
 mod asks;
+mod barred;
 mod chf;
 mod command;
 mod commit;
