@@ -1,3 +1,4 @@
+pub mod FirstAsks
 pub mod Places
 pub mod Fresh
 pub mod Named
