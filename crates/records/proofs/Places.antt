@@ -139,3 +139,8 @@ fits-absent gs q e none same = subst (λ (o : Option ℕ). IfSome o (λ room. le
 pub on_ok : {T E : Type 0} {P Q : Type 0} (r : Result T E) → (P → Q) → OnOk r P → OnOk r Q
 on_ok (Ok x) f h = f h
 on_ok (Err e) f h = tt
+
+-- the places of all entries, from those of each
+pub all_places : (gs : List GroupSeen) (es : List UnitUsage) → ((k : ℕ) (d : UnitUsage) → k < length es → HasPlaces gs (get_or es k d)) → HaveAllPlaces gs es
+all_places gs [] h = tt
+all_places gs (e ∷ es) h = (h 0 e (omega arith), all_places gs es (λ k d lt. h (suc k) d (omega arith)))
