@@ -31,3 +31,5 @@ pub mod Standing
 pub mod Drafts
 pub mod OfSessions
 pub mod InRange
+pub mod TextTable
+pub mod Placed

@@ -24,6 +24,7 @@
 #![tactic(auto)]
 
 mod asks;
+mod barred;
 mod chf;
 mod command;
 mod commit;
@@ -31,6 +32,7 @@ mod decision;
 mod draft;
 mod effect;
 mod fits;
+mod found_requests;
 mod give_back;
 mod grants;
 mod histories;
@@ -50,6 +52,7 @@ mod session_laws;
 mod setup;
 mod subscription;
 mod target;
+mod text_table;
 mod trial;
 mod verdict;
 
