@@ -5,6 +5,7 @@ use Rattle.units.specs.declared.request.Operation.{Operation}
 use Rattle.units.specs.declared.request.Operation.TheVariants.{Create, Update, Release}
 use Rattle.units.specs.declared.request.Request.{Request}
 use Rattle.units.specs.declared.reply.Reply.{Reply}
+use Rattle.sessions.specs.Content.{content}
 use Rattle.sessions.specs.Kept.{Kept as KeptRequest, accepted, has_release, is_release, is_success}
 use Rattle.chf_core.specs.declared.command.Command.{Command}
 use Rattle.chf_core.specs.declared.command.Command.TheVariants.{Charge}
@@ -44,18 +45,18 @@ pub record AreBySession (a : List Command) : Type 0 where
 module _ (a : List Command) (q : Request) where
   -- a kept request that is refused is not accepted
   pub not_accepted : (b : Bool) (p : Reply) (l : List KeptRequest) → is_success p ≡ false
-      → accepted (cond b (record { request = q; reply = p } ∷ l) l) ≡ accepted l
-  not_accepted true p l e = ap (λ s. cond s (q ∷ accepted l) (accepted l)) e
+      → accepted (cond b (record { request = content q; reply = p } ∷ l) l) ≡ accepted l
+  not_accepted true p l e = ap (λ s. cond s (content q ∷ accepted l) (accepted l)) e
   not_accepted false p l e = refl
 
   is_accepted : (b : Bool) (p : Reply) (l : List KeptRequest) → b ≡ true → is_success p ≡ true
-      → accepted (cond b (record { request = q; reply = p } ∷ l) l) ≡ q ∷ accepted l
-  is_accepted b p l e s = ap (λ x. accepted (cond x (record { request = q; reply = p } ∷ l) l)) e
-      ∙ ap (λ x. cond x (q ∷ accepted l) (accepted l)) s
+      → accepted (cond b (record { request = content q; reply = p } ∷ l) l) ≡ content q ∷ accepted l
+  is_accepted b p l e s = ap (λ x. accepted (cond x (record { request = content q; reply = p } ∷ l) l)) e
+      ∙ ap (λ x. cond x (content q ∷ accepted l) (accepted l)) s
 
   other : (b : Bool) (p : Reply) (l : List KeptRequest) → b ≡ false
-      → accepted (cond b (record { request = q; reply = p } ∷ l) l) ≡ accepted l
-  other b p l e = ap (λ x. accepted (cond x (record { request = q; reply = p } ∷ l) l)) e
+      → accepted (cond b (record { request = content q; reply = p } ∷ l) l) ≡ accepted l
+  other b p l e = ap (λ x. accepted (cond x (record { request = content q; reply = p } ∷ l) l)) e
 
 -- ---- one step
 
@@ -72,12 +73,12 @@ pub record Steps (a : List Command) (q : Request) (op : Operation) (account : Op
   pub none : (n : Name)
       → cond (opens_by op account && same_session (name q.consumer (id_of q.charging_id)) n)
       (Some (length (sessions a) + 1)) (reference_of a n) ≡ None
-      → accepted (cond (is_of (key_by op a q) n) (record { request = q; reply = reply_by op a q } ∷ kept_of a n)
+      → accepted (cond (is_of (key_by op a q) n) (record { request = content q; reply = reply_by op a q } ∷ kept_of a n)
       (kept_of a n)) ≡ []
   pub some : (r : ℕ) (z : Session) → by_reference zz r ≡ Some z
       → IsBy z (accepted
       (cond (is_of (key_by op a q) (name_of z))
-      (record { request = q; reply = reply_by op a q } ∷ kept_of a (name_of z)) (kept_of a (name_of z))))
+      (record { request = content q; reply = reply_by op a q } ∷ kept_of a (name_of z)) (kept_of a (name_of z))))
 
 -- a Create whose subscriber has no account
 no_account : (a : List Command) (q : Request) → AreBySession a → account_for a q.subscriber ≡ None
@@ -149,7 +150,7 @@ module _ (a : List Command) (q : Request) (h : AreBySession a) (n : ℕ) where
         (λ (x : (length (sessions a) + 1 ≡ r) × (new ≡ z)). subst
         (λ y. IsBy y
         (accepted (cond (same_session mine (name_of y))
-        (record { request = q; reply = reply_by Create a q } ∷ kept_of a (name_of y)) (kept_of a (name_of y))))) x.1
+        (record { request = content q; reply = reply_by Create a q } ∷ kept_of a (name_of y)) (kept_of a (name_of y))))) x.1
         first)
         (λ (x : (by_reference (sessions a) r ≡ Some z) × (same_session mine (name_of z) ≡ false)).
         subst (IsBy z)
@@ -184,18 +185,18 @@ module _ (a : List Command) (q : Request) (h : AreBySession a) (n : ℕ) where
       unnamed m false e w = (e, w)
 
       all : accepted
-          (cond (same_session mine mine) (record { request = q; reply = reply_by Create a q } ∷ kept_of a mine)
-          (kept_of a mine)) ≡ q ∷ []
+          (cond (same_session mine mine) (record { request = content q; reply = reply_by Create a q } ∷ kept_of a mine)
+          (kept_of a mine)) ≡ content q ∷ []
       all = is_accepted a q (same_session mine mine) (reply_by Create a q) (kept_of a mine) (same_itself mine) good
-          ∙ ap (λ l. q ∷ l) (h.none mine none)
+          ∙ ap (λ l. content q ∷ l) (h.none mine none)
 
       first : IsBy new
           (accepted (cond (same_session mine mine)
-          (record { request = q; reply = reply_by Create a q } ∷ kept_of a mine) (kept_of a mine)))
+          (record { request = content q; reply = reply_by Create a q } ∷ kept_of a mine) (kept_of a mine)))
       first = subst (IsBy new) (sym all) (record {
         last = refl;
         goes_on = ap (λ o. cond (is_release o) true false) (eo ∙ ec);
-        any = λ w. let g : ◌≡◌ {A = List Request} (q ∷ []) [] = w in absurd (cc);
+        any = λ w. let g : ◌≡◌ {A = List Request} (content q ∷ []) [] = w in absurd (cc);
       })
 
 -- an Update or Release of a session
@@ -260,7 +261,7 @@ module _ (a : List Command) (q : Request) (h : AreBySession a) (p : ℕ) (x : Se
         (λ (y : (p ≡ r) × (next ≡ z)). subst
         (λ (v : Session). IsBy v
         (accepted (cond (is_of (key_by op a q) (name_of v))
-        (record { request = q; reply = reply_by op a q } ∷ kept_of a (name_of v)) (kept_of a (name_of v))))) y.1
+        (record { request = content q; reply = reply_by op a q } ∷ kept_of a (name_of v)) (kept_of a (name_of v))))) y.1
         last_one)
         (λ (y : (by_reference (sessions a) r ≡ Some z) × (same_session (name_of x) (name_of z) ≡ false)).
         subst (IsBy z)
@@ -288,13 +289,13 @@ module _ (a : List Command) (q : Request) (h : AreBySession a) (p : ℕ) (x : Se
 
       last_one : IsBy next
           (accepted (cond (is_of (key_by op a q) (name_of x))
-          (record { request = q; reply = reply_by op a q } ∷ kept_of a (name_of x)) (kept_of a (name_of x))))
+          (record { request = content q; reply = reply_by op a q } ∷ kept_of a (name_of x)) (kept_of a (name_of x))))
       last_one = subst (IsBy next)
           (sym (is_accepted a q (is_of (key_by op a q) (name_of x)) (reply_by op a q) (kept_of a (name_of x))
           (of_it (name_of x) ∙ same_itself (name_of x)) good)) (record {
             last = refl;
             goes_on = after_open (accepted (kept_of a (name_of x))) (h.some p x at).goes_on;
-            any = λ w. let g : ◌≡◌ {A = List Request} (q ∷ accepted (kept_of a (name_of x))) [] = w in absurd (cc);
+            any = λ w. let g : ◌≡◌ {A = List Request} (content q ∷ accepted (kept_of a (name_of x))) [] = w in absurd (cc);
           })
 
 -- ---- a fresh request

@@ -4,9 +4,10 @@ use Rattle.std.specs.Option.{option_or}
 use Rattle.units.specs.declared.request.Operation.{Operation}
 use Rattle.units.specs.declared.request.Operation.TheVariants.{Create, Update, Release}
 use Rattle.units.specs.declared.request.Request.{Request}
+use Rattle.units.specs.declared.reply.Reply.{Reply}
 use Rattle.sessions.specs.Content.{content, same_content}
 use Rattle.sessions.specs.Kept.{Kept as KeptRequest, is_success, is_release, accepted, newest_number, has_release}
-use Rattle.sessions.specs.Decided.{Repeats, Passed, Over, IsNew, unmarked, kept_under, decided_create, decided_later, decided_new, decided_under, decided}
+use Rattle.sessions.specs.Decided.{Repeats, Passed, Over, IsNew, kept_under, decided_create, decided_later, decided_new, decided_under, decided}
 use Rattle.chf_core.specs.declared.command.Command.{Command}
 use Rattle.chf_core.specs.declared.command.Command.TheVariants.{Charge}
 use Rattle.chf_core.specs.declared.command.Outcome.{Outcome}
@@ -26,7 +27,7 @@ use Rattle.chf_core.specs.KeptRequests.{kept_of, AreFresh}
 use Rattle.chf_core.specs.State.{name_of}
 use Rattle.chf_core.specs.After.{IsHistory}
 use Rattle.chf_core.specs.Standing.{IsBy}
-use Rattle.chf_core.specs.OfSessions.{HasKey, IsDecided, kept_in, with_first}
+use Rattle.chf_core.specs.OfSessions.{HasKey, IsDecided, with_first}
 use Rattle.chf_core.proofs.Places.{eq_yes, eq_no}
 use Rattle.chf_core.proofs.Named.{place_within, same_key}
 use Rattle.chf_core.proofs.Keyed.{fresh_place}
@@ -41,12 +42,17 @@ use Rattle.chf_core.proofs.ByKept.{AreBySession, by_session, are_fresh}
 abbrev pub of_session : Name → ℕ → Key
 of_session n number = record { session = n; number = number }
 
--- the kept request at a place, which is the one under its number
+-- what is kept of a request
+abbrev pub kept_as : Request → Reply → KeptRequest
+kept_as asked reply = record { request = content asked; reply = reply }
+
+-- the request at a place and its first reply, which are kept under its number
 pub record IsAt (a : List Command) (n : Name) (number place : ℕ) : Type 0 where
-  pub kept : KeptRequest
-  pub under : kept_under (kept_of a n) number ≡ Some kept
-  pub command : command_at a place ≡ Some (Charge kept.request)
-  pub outcome : outcome_at a place ≡ Some (Charged kept.reply)
+  pub asked : Request
+  pub reply : Reply
+  pub under : kept_under (kept_of a n) number ≡ Some (kept_as asked reply)
+  pub command : command_at a place ≡ Some (Charge asked)
+  pub outcome : outcome_at a place ≡ Some (Charged reply)
 
 -- a number of a session has a place and a kept request, or neither
 pub data FoundAt (a : List Command) (n : Name) (number : ℕ) : Type 0 where
@@ -64,7 +70,8 @@ at_later c a n number p k (At place e f) =
     let no : (length a == place) ≡ false =
     eq_no (length a) place (λ z. let h : length a ≡ place = z in omega arith) in
     At place (p ∙ e) (record {
-      kept = f.kept;
+      asked = f.asked;
+      reply = f.reply;
       under = k ∙ f.under;
       command = ap (λ b. cond b (Some c) (command_at a place)) no ∙ f.command;
       outcome = ap (λ b. cond b (Some (outcome_of a c)) (outcome_at a place)) no ∙ f.outcome;
@@ -106,7 +113,8 @@ module _ (a : List Command) (q : Request) (o : Outcome) (m : Name) (mine : HasKe
       At (length a)
       (place_next true true s e ∙ ap (λ p. option_or p (Some (length a))) (not_there s e))
       (record {
-        kept = with_first a q;
+        asked = q;
+        reply = first_reply a q;
         under = under_next s ∙ ap (λ b. cond b (Some (with_first a q)) (kept_under (kept_of a n) number)) e;
         command = ap (λ b. cond b (Some (Charge q)) (command_at a (length a))) (eq_yes (length a) (length a) refl);
         outcome =
@@ -126,43 +134,6 @@ pub found_at : (a : List Command) → AreFresh a → (n : Name) (number : ℕ) �
 found_at [] f n number = Nowhere refl refl
 found_at (Charge q ∷ a) f n number = found_charge a q f.0.0 n number f.0.1 (found_at a f.1 n number)
 found_at (c ∷ a) f n number = at_later c a n number refl refl (found_at a f.1 n number)
-
--- ---- contents
-
-under_unmarked : (ks : List KeptRequest) (number : ℕ) (o : Option KeptRequest) → kept_under ks number ≡ o
-    → kept_under (map unmarked ks) number ≡ option_map unmarked o
-under_unmarked [] number o e = ap (option_map unmarked) e
-under_unmarked (k ∷ ks) number o e = at (k.request.number == number) (λ x f. under_unmarked ks number x f) e
-  where
-    at : (b : Bool)
-        → ((x : Option KeptRequest) → kept_under ks number ≡ x
-        → kept_under (map unmarked ks) number ≡ option_map unmarked x)
-        → cond b (Some k) (kept_under ks number) ≡ o
-        → cond b (Some (unmarked k)) (kept_under (map unmarked ks) number) ≡ option_map unmarked o
-    at true f g = ap (option_map unmarked) g
-    at false f g = f o g
-
-accepted_unmarked : (ks : List KeptRequest) → accepted (map unmarked ks) ≡ map content (accepted ks)
-accepted_unmarked [] = refl
-accepted_unmarked (k ∷ ks) = at (is_success k.reply) (accepted_unmarked ks)
-  where
-    at : (b : Bool) → accepted (map unmarked ks) ≡ map content (accepted ks)
-        → cond b (content k.request ∷ accepted (map unmarked ks)) (accepted (map unmarked ks))
-        ≡ map content (cond b (k.request ∷ accepted ks) (accepted ks))
-    at true e = ap (λ rs. content k.request ∷ rs) e
-    at false e = e
-
-release_content : (rs : List Request) → has_release (map content rs) ≡ has_release rs
-release_content [] = refl
-release_content (r ∷ rs) = ap (λ b. cond (is_release r.operation) true b) (release_content rs)
-
-by_content : (z : Session) (rs : List Request) → IsBy z rs → IsBy z (map content rs)
-by_content z [] b = absurd (b.any refl)
-by_content z (r ∷ rs) b = record {
-  any = λ w. let g : ◌≡◌ {A = List Request} (content r ∷ map content rs) [] = w in absurd (cc);
-  last = b.last;
-  goes_on = release_content (r ∷ rs) ∙ b.goes_on;
-}
 
 -- ---- what a session says of a request
 
@@ -218,16 +189,11 @@ says a q rs op (NoSession c e n) = record {
 }
 
 module _ (a : List Command) (q : Request) (n : Name) (h : AreBySession a) (k : HasKey a q n) where
-  -- a session of the name is by the contents of what is kept
-  by_contents : (r : ℕ) (z : Session) → session_at a r ≡ Some z → name_of z ≡ n → IsBy z (accepted (kept_in a n))
-  by_contents r z e s =
-      subst (IsBy z) (sym (accepted_unmarked (kept_of a n)))
-      (by_content z (accepted (kept_of a n)) (subst (λ m. IsBy z (accepted (kept_of a m))) s (h.some r z e)))
+  -- a session of the name is by what is kept
+  by_requests : (r : ℕ) (z : Session) → session_at a r ≡ Some z → name_of z ≡ n → IsBy z (accepted (kept_of a n))
+  by_requests r z e s = subst (λ m. IsBy z (accepted (kept_of a m))) s (h.some r z e)
 
-  none_kept : reference_of a n ≡ None → accepted (kept_in a n) ≡ []
-  none_kept e = accepted_unmarked (kept_of a n) ∙ ap (map content) (h.none n e)
-
-  of_create : (o : Option ℕ) → reference_of a n ≡ o → q.operation ≡ Create → Names a q (accepted (kept_in a n)) Create
+  of_create : (o : Option ℕ) → reference_of a n ≡ o → q.operation ≡ Create → Names a q (accepted (kept_of a n)) Create
   of_create o e c = by o (ap (session_for a) (ap (reference_of a) itself ∙ e)) e
     where
       itself : name q.consumer (id_of q.charging_id) ≡ n
@@ -237,52 +203,52 @@ module _ (a : List Command) (q : Request) (n : Name) (h : AreBySession a) (k : H
           sym (creates a q c) ∙ k in cc) in ap (λ (x : Key). x.session) z
 
       by : (o : Option ℕ) → named_by Create a q ≡ session_for a o → reference_of a n ≡ o
-          → Names a q (accepted (kept_in a n)) Create
-      by None w f = NoSession refl w (none_kept f)
-      by (Some r) w f = let v = h.valid n r f in OneSession v.0 (w ∙ v.1) (by_contents r v.0 v.1 v.2)
+          → Names a q (accepted (kept_of a n)) Create
+      by None w f = NoSession refl w (h.none n f)
+      by (Some r) w f = let v = h.valid n r f in OneSession v.0 (w ∙ v.1) (by_requests r v.0 v.1 v.2)
 
   of_later : (r : ℕ) (op : Operation) → named_by op a q ≡ session_at a r
-      → key_in q (session_at a r) ≡ Some (of_session n q.number) → Names a q (accepted (kept_in a n)) op
+      → key_in q (session_at a r) ≡ Some (of_session n q.number) → Names a q (accepted (kept_of a n)) op
   of_later r op w e = by (session_at a r) refl e
     where
       by : (o : Option Session) → session_at a r ≡ o → key_in q o ≡ Some (of_session n q.number)
-          → Names a q (accepted (kept_in a n)) op
+          → Names a q (accepted (kept_of a n)) op
       by None f g = absurd (cc)
-      by (Some z) f g = OneSession z (w ∙ f) (by_contents r z f (sym (of_key q z (of_session n q.number) g)))
+      by (Some z) f g = OneSession z (w ∙ f) (by_requests r z f (sym (of_key q z (of_session n q.number) g)))
 
-  names : (op : Operation) → q.operation ≡ op → Names a q (accepted (kept_in a n)) op
+  names : (op : Operation) → q.operation ≡ op → Names a q (accepted (kept_of a n)) op
   names Create e = of_create (reference_of a n) refl e
   names (Update r) e = of_later r (Update r) refl (sym (ap (λ p. key_by p a q) e) ∙ k)
   names (Release r) e = of_later r (Release r) refl (sym (ap (λ p. key_by p a q) e) ∙ k)
 
-  it_says : Says a q (accepted (kept_in a n)) q.operation
-  it_says = says a q (accepted (kept_in a n)) q.operation (names q.operation refl)
+  it_says : Says a q (accepted (kept_of a n)) q.operation
+  it_says = says a q (accepted (kept_of a n)) q.operation (names q.operation refl)
 
   -- where its number is kept, and where it is not
   by_place : FoundAt a n q.number
-      → IsDecided a q (decided (kept_in a n) q) (at_place a q (named_by q.operation a q) (place_of a (of_session n q.number)))
+      → IsDecided a q (decided (kept_of a n) q) (at_place a q (named_by q.operation a q) (place_of a (of_session n q.number)))
   by_place (Nowhere e f) =
-      subst (λ o. IsDecided a q (decided_under (kept_in a n) q o) (at_place a q (named_by q.operation a q) (place_of a (of_session n q.number))))
-      (sym (under_unmarked (kept_of a n) q.number None f))
-      (subst (λ p. IsDecided a q (decided_under (kept_in a n) q None) (at_place a q (named_by q.operation a q) p)) (sym e)
+      subst (λ o. IsDecided a q (decided_under (kept_of a n) q o) (at_place a q (named_by q.operation a q) (place_of a (of_session n q.number))))
+      (sym f)
+      (subst (λ p. IsDecided a q (decided_under (kept_of a n) q None) (at_place a q (named_by q.operation a q) p)) (sym e)
       it_says.next)
   by_place (At place e f) =
-      subst (λ o. IsDecided a q (decided_under (kept_in a n) q o) (at_place a q (named_by q.operation a q) (place_of a (of_session n q.number))))
-      (sym (under_unmarked (kept_of a n) q.number (Some f.kept) f.under))
-      (subst (λ p. IsDecided a q (decided_under (kept_in a n) q (Some (unmarked f.kept))) (at_place a q (named_by q.operation a q) p)) (sym e)
-      (subst (λ c. IsDecided a q (decided_under (kept_in a n) q (Some (unmarked f.kept))) (at_kept place (last_of (named_by q.operation a q)) (is_repeat q c)))
-      (sym f.command) (at (same_content f.kept.request q))))
+      subst (λ o. IsDecided a q (decided_under (kept_of a n) q o) (at_place a q (named_by q.operation a q) (place_of a (of_session n q.number))))
+      (sym f.under)
+      (subst (λ p. IsDecided a q (decided_under (kept_of a n) q (Some (kept_as f.asked f.reply))) (at_place a q (named_by q.operation a q) p)) (sym e)
+      (subst (λ c. IsDecided a q (decided_under (kept_of a n) q (Some (kept_as f.asked f.reply))) (at_kept place (last_of (named_by q.operation a q)) (is_repeat q c)))
+      (sym f.command) (at (same_content f.asked q))))
     where
       at : (b : Bool)
-          → IsDecided a q (cond b (Repeats f.kept.reply) (Passed (newest_number (accepted (kept_in a n)))))
+          → IsDecided a q (cond b (Repeats f.reply) (Passed (newest_number (accepted (kept_of a n)))))
           (at_kept place (last_of (named_by q.operation a q)) b)
       at true = (place, refl, f.outcome)
       at false = ap (λ m. Refused (SequencePassed m)) it_says.last
 
 pub by_kept : (a : List Command) (q : Request) (n : Name) → IsHistory a → HasKey a q n
-    → IsDecided a q (decided (kept_in a n) q) (decision a (Charge q))
+    → IsDecided a q (decided (kept_of a n) q) (decision a (Charge q))
 by_kept a q n h k =
-    subst (IsDecided a q (decided (kept_in a n) q)) (sym (ap (at_key a q) k))
+    subst (IsDecided a q (decided (kept_of a n) q)) (sym (ap (at_key a q) k))
     (by_place a q n (by_session a (are_fresh a h)) k (found_at a (are_fresh a h) n q.number))
 
 pub no_session : (a : List Command) (q : Request) → key_of a q ≡ None

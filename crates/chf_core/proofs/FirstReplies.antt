@@ -1,8 +1,9 @@
 -- A kept request gets the first reply that its session has under its number.
-use Rattle.std.proofs.Common.{◌≡◌, ◌<◌, ◌==◌, ◌&&◌, ℕ, Bool, true, false, cond, List, [], ◌∷◌, length, Option, Some, None, refl, sym, ap, ◌∙◌, arith}
+use Rattle.std.proofs.Common.{◌≡◌, ◌<◌, ◌==◌, ℕ, Bool, true, false, cond, List, [], ◌∷◌, length, Option, Some, None, refl, sym, ap, ◌∙◌, arith}
 use Rattle.units.specs.declared.request.Request.{Request}
 use Rattle.units.specs.declared.reply.Reply.{Reply}
 use Rattle.std.specs.Option.{option_or}
+use Rattle.sessions.specs.Content.{content}
 use Rattle.sessions.specs.Kept.{Kept as KeptRequest, first_reply as replied}
 use Rattle.chf_core.specs.declared.key.Key.{Key}
 use Rattle.chf_core.specs.declared.command.Command.{Command}
@@ -49,7 +50,7 @@ first_one a q k j place w t n none =
     record {
       reply = first_reply a q;
       is_first =
-          ap (λ b. replied (cond b (record { request = q; reply = first_reply a q } ∷ kept_of a k.session) (kept_of a k.session)) k.number) is
+          ap (λ b. replied (cond b (record { request = content q; reply = first_reply a q } ∷ kept_of a k.session) (kept_of a k.session)) k.number) is
           ∙ (λ i. option_or (nothing i) (cond (number i) (Some (first_reply a q)) None));
       is_kept = ap (λ b. cond b (Some (Charged (first_reply a q))) (outcome_at a place)) (eq_yes (length a) place n);
     }
@@ -69,7 +70,7 @@ replied_at (Charge q ∷ a) k place e = by_place (place_of a k) refl e (replied_
     by_place : (o : Option ℕ) → place_of a k ≡ o → option_or o (cond (is_key (key_of a q) k) (Some (length a)) None) ≡ Some place → (place_of a k ≡ Some place → Replied a k place) → Replied (Charge q ∷ a) k place
     by_place (Some i) p f more =
         let z : place_of a k ≡ Some place = p ∙ f in
-        later a (Charge q) k place (place_within a k place z) (reply_stands (kept_of a k.session) k.number (record { request = q; reply = first_reply a q }) (is_of (key_of a q) k.session)) (more z)
+        later a (Charge q) k place (place_within a k place z) (reply_stands (kept_of a k.session) k.number (record { request = content q; reply = first_reply a q }) (is_of (key_of a q) k.session)) (more z)
     by_place None p f more = by_key (key_of a q) refl f p
 replied_at (Subscriber supi account barred ∷ a) k place e = later a (Subscriber supi account barred) k place (place_within a k place e) (λ r h. h) (replied_at a k place e)
 replied_at (TopUp id account amount ∷ a) k place e = later a (TopUp id account amount) k place (place_within a k place e) (λ r h. h) (replied_at a k place e)

@@ -4,6 +4,7 @@ use Rattle.std.specs.Option.{option_or}
 use Rattle.units.specs.declared.request.Operation.{Operation}
 use Rattle.units.specs.declared.request.Operation.TheVariants.{Create, Update, Release}
 use Rattle.units.specs.declared.request.Request.{Request}
+use Rattle.sessions.specs.Content.{content}
 use Rattle.sessions.specs.Kept.{AreKeyed, first_reply as reply_under}
 use Rattle.chf_core.specs.declared.session.Session.{Session}
 use Rattle.chf_core.specs.declared.key.Name.{Name}
@@ -49,14 +50,14 @@ none_under (Setup p ∷ a) k e = none_under a k e
 none_under (Charge q ∷ a) k e = by_key (key_of a q) refl (no_place (place_of a k) (is_key (key_of a q) k) (length a) e).0 (none_under a k (no_place (place_of a k) (is_key (key_of a q) k) (length a) e).1)
   where
     by_session : (j : Key) (b : Bool) → key_of a q ≡ Some j → same_session j.session k.session ≡ b → key_eq j k ≡ false → reply_under (kept_of a k.session) k.number ≡ None
-        → reply_under (cond b (record { request = q; reply = first_reply a q } ∷ kept_of a k.session) (kept_of a k.session)) k.number ≡ None
+        → reply_under (cond b (record { request = content q; reply = first_reply a q } ∷ kept_of a k.session) (kept_of a k.session)) k.number ≡ None
     by_session j true w s n i =
         let x : (j.number == k.number) ≡ false = sym (ap (λ b. b && j.number == k.number) s) ∙ n in
         let y : (q.number == k.number) ≡ false = ap (λ m. m == k.number) (sym (own_number a q j w)) ∙ x in
         λ p. option_or (i p) (cond (y p) (Some (first_reply a q)) None)
     by_session j false w s n i = i
 
-    by_key : (w : Option Key) → key_of a q ≡ w → is_key (key_of a q) k ≡ false → reply_under (kept_of a k.session) k.number ≡ None → reply_under (cond (is_of w k.session) (record { request = q; reply = first_reply a q } ∷ kept_of a k.session) (kept_of a k.session)) k.number ≡ None
+    by_key : (w : Option Key) → key_of a q ≡ w → is_key (key_of a q) k ≡ false → reply_under (kept_of a k.session) k.number ≡ None → reply_under (cond (is_of w k.session) (record { request = content q; reply = first_reply a q } ∷ kept_of a k.session) (kept_of a k.session)) k.number ≡ None
     by_key None w h i = i
     by_key (Some j) w h i = by_session j (same_session j.session k.session) w refl (ap (λ o. is_key o k) (sym w) ∙ h) i
 none_under (Subscriber u n b ∷ a) k e = none_under a k e
@@ -96,13 +97,13 @@ kept_keyed [] n h = tt
 kept_keyed (Setup p ∷ a) n h = kept_keyed a n h.1
 kept_keyed (Charge q ∷ a) n h = by_key (key_of a q) refl (kept_keyed a n h.1)
   where
-    by_session : (j : Key) (b : Bool) → key_of a q ≡ Some j → same_session j.session n ≡ b → AreKeyed (kept_of a n) → AreKeyed (cond b (record { request = q; reply = first_reply a q } ∷ kept_of a n) (kept_of a n))
+    by_session : (j : Key) (b : Bool) → key_of a q ≡ Some j → same_session j.session n ≡ b → AreKeyed (kept_of a n) → AreKeyed (cond b (record { request = content q; reply = first_reply a q } ∷ kept_of a n) (kept_of a n))
     by_session j true w s i =
         let z = none_under a j (fresh_place a q j h.0.0 w h.0.1) in
         (subst (λ (m : Name). reply_under (kept_of a m) q.number ≡ None) (session_same j n s) (subst (λ (x : ℕ). reply_under (kept_of a j.session) x ≡ None) (own_number a q j w) z), i)
     by_session j false w s i = i
 
-    by_key : (w : Option Key) → key_of a q ≡ w → AreKeyed (kept_of a n) → AreKeyed (cond (is_of w n) (record { request = q; reply = first_reply a q } ∷ kept_of a n) (kept_of a n))
+    by_key : (w : Option Key) → key_of a q ≡ w → AreKeyed (kept_of a n) → AreKeyed (cond (is_of w n) (record { request = content q; reply = first_reply a q } ∷ kept_of a n) (kept_of a n))
     by_key None w i = i
     by_key (Some j) w i = by_session j (same_session j.session n) w refl i
 kept_keyed (Subscriber u m b ∷ a) n h = kept_keyed a n h.1

@@ -1,3 +1,4 @@
+pub mod FirstAsks
 pub mod Places
 pub mod Fresh
 pub mod Named
@@ -37,3 +38,7 @@ mod Deciding
 mod SessionLines
 mod Switches
 mod InRange
+mod TextTables
+mod PlacedRequests
+pub mod OwnedState
+pub mod EnteredKeys

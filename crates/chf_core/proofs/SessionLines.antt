@@ -9,6 +9,7 @@ use Rattle.units.specs.declared.request.Operation.TheVariants.{Create, Update, R
 use Rattle.units.specs.declared.request.Used.{Used}
 use Rattle.units.specs.declared.request.UnitUsage.{UnitUsage}
 use Rattle.units.specs.declared.request.Request.{Request}
+use Rattle.sessions.specs.Content.{content}
 use Rattle.sessions.specs.Kept.{is_success, accepted}
 use Rattle.accounts.specs.declared.line.Line.{Line}
 use Rattle.chf_core.specs.declared.setup.ChfSetup.{ChfSetup}
@@ -144,9 +145,9 @@ module _ (a : List Command) (q : Request) (m : Name) (t : Target) (l : AreLined 
       ∙ ap (λ x. lines_by t.session (ledger a) ++ x)
       (of_usage (rates_in (setup_of a)) t t.session true (eq_yes t.session t.session refl) q.usage)
 
-  one_more : accepted (kept_of (Charge q ∷ a) m) ≡ q ∷ accepted (kept_of a m)
+  one_more : accepted (kept_of (Charge q ∷ a) m) ≡ content q ∷ accepted (kept_of a m)
   one_more =
-      ap accepted (own_kept a q m mine) ∙ ap (λ b. cond b (q ∷ accepted (kept_of a m)) (accepted (kept_of a m))) good
+      ap accepted (own_kept a q m mine) ∙ ap (λ b. cond b (content q ∷ accepted (kept_of a m)) (accepted (kept_of a m))) good
 
   -- its own session, of which the lines before are those of its accepted requests before
   own_lined : (x : Lasting) → owner (sessions (Charge q ∷ a)) t.session ≡ Some x → x.account ≡ t.account

@@ -2,11 +2,12 @@
 use Rattle.std.specs.Prelude.{◌≡◌, ℕ, Bool, true, false, cond, List, [], ◌∷◌, Option, Some, None}
 use Rattle.units.specs.declared.request.Request.{Request}
 use Rattle.units.specs.declared.reply.Reply.{Reply}
+use Rattle.sessions.specs.Content.{content}
 use Rattle.sessions.specs.Kept.{Kept as KeptRequest, AreKeyed, first_reply as replied}
 use Rattle.chf_core.specs.declared.key.Name.{Name}
 use Rattle.chf_core.specs.declared.key.Key.{Key}
 use Rattle.chf_core.specs.declared.command.Command.{Command}
-use Rattle.chf_core.specs.declared.command.Command.TheVariants.{Setup, Charge, Subscriber, TopUp, Expire}
+use Rattle.chf_core.specs.declared.command.Command.TheVariants.{Charge}
 use Rattle.chf_core.specs.declared.command.Outcome.{Outcome}
 use Rattle.chf_core.specs.declared.command.Outcome.TheVariants.{Charged}
 use Rattle.chf_core.specs.declared.decision.Verdict.TheVariants.{Fresh, Kept}
@@ -21,14 +22,13 @@ abbrev pub is_of : Option Key → Name → Bool
 is_of None n = false
 is_of (Some k) n = same_session k.session n
 
--- the requests of a session, each with its first reply
+-- the contents of the requests of a session, each with its first reply
 abbrev pub kept_of : List Command → Name → List KeptRequest
 kept_of [] n = []
-kept_of (Setup setup ∷ before) n = kept_of before n
-kept_of (Charge q ∷ before) n = cond (is_of (key_of before q) n) (record { request = q; reply = first_reply before q } ∷ kept_of before n) (kept_of before n)
-kept_of (Subscriber supi account barred ∷ before) n = kept_of before n
-kept_of (TopUp id account amount ∷ before) n = kept_of before n
-kept_of (Expire moment ∷ before) n = kept_of before n
+kept_of (Charge q ∷ before) n =
+    cond (is_of (key_of before q) n) (record { request = content q; reply = first_reply before q } ∷ kept_of before n)
+    (kept_of before n)
+kept_of (c ∷ before) n = kept_of before n
 
 -- each command was fresh at its place, by the commands before it
 abbrev pub AreFresh : List Command → Type 0

@@ -31,3 +31,8 @@ pub mod Standing
 pub mod Drafts
 pub mod OfSessions
 pub mod InRange
+pub mod TextTable
+pub mod Placed
+pub mod Owners
+pub mod Chf
+pub mod ChfKept

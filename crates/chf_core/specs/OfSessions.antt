@@ -1,13 +1,14 @@
 -- What holds of each charging session in every list of commands, the newest first: its keys, the requests that are kept of it, decisions by these, its lines in the ledger, and the switches that its replies tell (TS 32.290, 5.3.2; this product's own).
-use Rattle.std.specs.Prelude.{◌≡◌, ◌⊎◌, ℕ, ◌==◌, true, All, List, [], ◌∷◌, ◌++◌, filter, map, Option, Some, None, is_some}
+use Rattle.std.specs.Prelude.{◌≡◌, ◌⊎◌, ℕ, ◌==◌, true, All, List, [], ◌∷◌, ◌++◌, filter, Option, Some, None, is_some}
 use Rattle.units.specs.declared.request.Operation.TheVariants.{Create}
 use Rattle.units.specs.declared.request.Request.{Request}
 use Rattle.units.specs.declared.answer.Answer.{Answer}
 use Rattle.units.specs.declared.answer.UnitInfo.{UnitInfo}
 use Rattle.units.specs.declared.reply.Reply.{Reply}
 use Rattle.units.specs.declared.reply.Reply.TheVariants.{Created, Updated}
+use Rattle.sessions.specs.Content.{content}
 use Rattle.sessions.specs.Kept.{Kept as KeptRequest, accepted}
-use Rattle.sessions.specs.Decided.{Decided, Repeats, Passed, Exists, Over, IsNew, unmarked, decided}
+use Rattle.sessions.specs.Decided.{Decided, Repeats, Passed, Exists, Over, IsNew, decided}
 use Rattle.rating.specs.Switch.{next_switch}
 use Rattle.accounts.specs.declared.line.Line.{Line}
 use Rattle.chf_core.specs.declared.command.Command.{Command}
@@ -66,9 +67,9 @@ ReferencesName =
 
 -- ---- kept requests
 
--- a request with its first reply
+-- the content of a request with its first reply
 abbrev pub with_first : List Command → Request → KeptRequest
-with_first commands q = record { request = q; reply = first_reply commands q }
+with_first commands q = record { request = content q; reply = first_reply commands q }
 
 -- what is kept of a session after one command more: what was kept, or that and the command, a request of that session
 abbrev pub IsNextKept : List Command → Command → Name → Type 0
@@ -86,10 +87,6 @@ abbrev pub OwnAreKept : Type 0
 OwnAreKept =
     (commands : List Command) (q : Request) (n : Name) → HasKey commands q n
     → kept_of (Charge q ∷ commands) n ≡ with_first commands q ∷ kept_of commands n
-
--- the kept requests of a session by their contents
-abbrev pub kept_in : List Command → Name → List KeptRequest
-kept_in commands n = map unmarked (kept_of commands n)
 
 -- ---- decisions
 
@@ -111,7 +108,7 @@ UnnamedAreRefused =
 abbrev pub DecisionsByKept : Type 0
 DecisionsByKept =
     (commands : List Command) (q : Request) (n : Name) → IsHistory commands → HasKey commands q n
-    → IsDecided commands q (decided (kept_in commands n) q) (decision commands (Charge q))
+    → IsDecided commands q (decided (kept_of commands n) q) (decision commands (Charge q))
 
 -- ---- the ledger
 

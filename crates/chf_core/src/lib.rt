@@ -23,14 +23,19 @@
 //! `use_request` and the trial; a table that is kept into `Caches` with its line in each commit.
 #![tactic(auto)]
 
+mod answering;
 mod asks;
+mod barred;
 mod chf;
 mod command;
 mod commit;
 mod decision;
 mod draft;
 mod effect;
+mod entering;
+mod finding;
 mod fits;
+mod found_requests;
 mod give_back;
 mod grants;
 mod histories;
@@ -38,11 +43,15 @@ mod kept_request;
 mod key;
 mod key_table;
 mod laws;
+mod machine;
 mod names;
 mod numbered;
 mod operator;
+mod operator_moves;
 mod plan;
 mod problems;
+mod planned;
+mod planning;
 mod reads;
 mod refusal;
 mod reply;
@@ -51,12 +60,14 @@ mod session_laws;
 mod setup;
 mod subscription;
 mod target;
+mod text_table;
 mod trial;
 mod verdict;
 
-pub use chf::Chf;
+pub use machine::Chf;
 pub use command::{Command, Outcome};
-pub use decision::{Decision, Plan, Verdict};
+pub use decision::Verdict;
+pub use planned::{Decision, Plan};
 pub use histories::{
     histories_grow, references_stand, requests_are_answered, sessions_are_by_kept,
     states_are_joined,

@@ -1,12 +1,10 @@
-use Rattle.std.proofs.Common.{◌≡◌, ◌≤◌, ◌++◌, ◌-◌, drop, take, length}
-use Rattle.chf_core.specs.Effect.{asks_of, asks_after}
+use Rattle.std.proofs.Common.{◌≡◌, ◌++◌, ℕ, nat_eq, drop, take}
+use Rattle.std.specs.HashSet.{contains}
+use Rattle.chf_core.specs.Effect.{asks_of, asks_after, mentions}
 use Rattle.chf_core.proofs.asks.asks_of.Given as goal
 
-abbrev pub invariant-loop-at : goal.invariant-loop-at
-invariant-loop-at l = record {
-  rest : l.asks.items ++ asks_after (take l.at l.usage) (drop l.at l.usage) ≡ asks_of l.usage;
-  within : l.at ≤ length l.usage;
+abbrev pub invariant-loop-entry : goal.invariant-loop-entry
+invariant-loop-entry l = record {
+  seen : (g : ℕ) → contains nat_eq l.mentioned g ≡ mentions (take l.entry-index l.usage) g;
+  rest : l.asks.items ++ asks_after (take l.entry-index l.usage) (drop l.entry-index l.usage) ≡ asks_of l.usage;
 }
-
-abbrev pub decreases-loop-at : goal.decreases-loop-at
-decreases-loop-at l = length l.usage - l.at
