@@ -64,10 +64,9 @@ mod text_table;
 mod trial;
 mod verdict;
 
-pub use machine::Chf;
+pub use chf::Chf;
 pub use command::{Command, Outcome};
-pub use decision::Verdict;
-pub use planned::{Decision, Plan};
+pub use decision::{Decision, Plan, Verdict};
 pub use histories::{
     histories_grow, references_stand, requests_are_answered, sessions_are_by_kept,
     states_are_joined,
