@@ -7,10 +7,10 @@ ghost use Rattle.chf_core.specs.State.{at_text, account_named, account_of, accou
 ghost use Rattle.chf_core.specs.CommandMoves.{target_of, supi_by};
 ghost use Rattle.chf_core.specs.Deciding.{is_repeat};
 
+use crate::chf::Chf;
 use crate::found_requests::found_at;
 use crate::kept_request::KeptRequest;
-use crate::machine::Chf;
-use crate::reads::{at_reference, id_of, supi_for};
+use crate::lookups::{at_reference, id_of, supi_for};
 use crate::session::Session;
 use crate::target::Target;
 use rating::Tariffs;

@@ -2,11 +2,11 @@ use Rattle.std.proofs.Common.{rules, ◌≡◌, ◌+◌, sym, ap, subst, arith}
 use Rattle.chf_core.specs.declared.command.Command.TheVariants.{Expire}
 use Rattle.chf_core.specs.After.{after}
 use Rattle.chf_core.specs.Owners.{IsOwned}
-use Rattle.chf_core.specs.Chf.{Machine}
-use Rattle.chf_core.specs.ChfKept.{state_seen}
+use Rattle.chf_core.specs.Machine.{Machine}
+use Rattle.chf_core.specs.Caches.{state_seen}
 use Rattle.chf_core.proofs.OwnedState.{owned_after}
 use Rattle.chf_core.proofs.PlacedRequests.{below_next}
-use Rattle.chf_core.proofs.machine.Chf.commit_expire.Goals as goal
+use Rattle.chf_core.proofs.chf.Chf.commit_expire.Goals as goal
 
 pub invariant_of-self : goal.invariant_of-self
 invariant_of-self c =
