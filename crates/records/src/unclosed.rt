@@ -231,8 +231,15 @@ impl Unclosed {
         first_reached(limits, self.sums, seconds)
     }
 
+    /// Its session.
+    pub fn session(&self) -> u32
+        ensures { result ≡ self.now.kept.session }
+    {
+        self.session
+    }
+
     /// Its number within the session.
-    pub(crate) fn sequence(&self) -> u32
+    pub fn sequence(&self) -> u32
         ensures { result ≡ self.now.kept.sequence }
     {
         self.sequence
