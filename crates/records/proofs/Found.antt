@@ -1,6 +1,6 @@
 -- What a search among the numbers of sessions says of the sessions.
-use Rattle.std.proofs.Common.{◌≡◌, ◌≢◌, ℕ, ◌+◌, ◌<◌, ◌≤◌, List, [], ◌∷◌, length, get_or, set, Option, Some, None, refl, sym, ap, ◌∙◌, subst}
-use Rattle.std.specs.Prelude.{IfSome, Result, OnOk}
+use Rattle.std.proofs.Common.{◌≡◌, ℕ, ◌<◌, List, length, get_or, set, Option, Some, sym, ap, ◌∙◌, subst}
+use Rattle.std.specs.Prelude.{IfSome}
 use Rattle.units.specs.declared.request.UnitUsage.{UnitUsage}
 use Rattle.records.specs.declared.record.Kept.{Kept}
 use Rattle.records.specs.declared.session.SessionKept.{SessionKept}
@@ -8,7 +8,6 @@ use Rattle.records.specs.Groups.{HasRoom}
 use Rattle.records.specs.Book.{Session, open_of, with_open, with_one}
 use Rattle.records.specs.Seen.{session_seen, sessions_seen, numbers_of, records_seen, AreRising, SequenceIsWithin, SequencesAreWithin, kept_of, IsThere, IsMissing}
 use Rattle.records.proofs.Sessions as s
-use Rattle.records.proofs.Places.{on_ok}
 
 -- the session at the place that was found
 pub record Has (zs : List SessionKept) (n i : ℕ) (old : SessionKept) : Type 0 where

@@ -6,3 +6,4 @@ pub mod Sessions
 pub mod Found
 pub mod Entered
 pub mod Swept
+pub mod Begun

@@ -1,5 +1,7 @@
 -- The session at a place, by its number, and what a change of it or a new one does.
-use Rattle.std.proofs.Common.{◌≡◌, ◌≢◌, ℕ, zero, suc, ◌+◌, ◌<◌, ◌≤◌, eqb, ltb, cond, Bool, true, false, List, [], ◌∷◌, length, get_or, set, map, Option, Some, None, option_map, refl, sym, ap, ◌∙◌, subst, arith}
+use Rattle.std.proofs.Common.{◌≡◌, ◌≢◌, ℕ, zero, suc, ◌+◌, ◌<◌, ◌≤◌, eqb, ltb, cond, Bool, true, false, List, [], ◌∷◌, length, get_or, set, Option, Some, None, option_map, refl, sym, ap, ◌∙◌, subst, arith}
+use Rattle.std.proofs.Common.{Bor}
+use Rattle.std.specs.Option.{option_copied}
 use Rattle.std.specs.Prelude.{IfSome}
 use Rattle.std.specs.List.{insert}
 use Rattle.std.proofs.lemmas.Bool.Decides.{nat_tests}
@@ -8,7 +10,7 @@ use Rattle.records.specs.declared.record.Kept.{Kept}
 use Rattle.records.specs.declared.session.SessionKept.{SessionKept}
 use Rattle.records.specs.Groups.{UnclosedSeen}
 use Rattle.records.specs.Book.{Records, with_one, Session, session_of, open_in, open_of, entered, with_open, reopened}
-use Rattle.records.specs.Seen.{session_seen, sessions_seen, numbers_of, IsBelow, AreRising, SequenceIsWithin, SequencesAreWithin, kept_of, records_seen, IsThere, IsMissing, IsGap}
+use Rattle.records.specs.Seen.{session_seen, sessions_seen, numbers_of, IsBelow, AreRising, SequenceIsWithin, SequencesAreWithin, kept_of, records_seen, IsMissing}
 use Rattle.records.proofs.Rising.{below_at}
 
 -- unequal numbers
@@ -160,3 +162,25 @@ get-set_at (z ∷ zs) (suc i) new d lt = get-set_at zs i new d (omega arith)
 -- bounds where a session has more room
 pub within-seen : (zs : List SessionKept) (m i : ℕ) (old new : SessionKept) → i < length (numbers_of zs) → old ≡ get_or zs i old → (SequenceIsWithin m old → SequenceIsWithin m new) → SequencesAreWithin m zs → SequencesAreWithin m (set zs i new)
 within-seen zs m i old new lt at keeps h = within-set zs m m i new (omega arith) h (keeps (within-at zs m i old h lt at))
+
+-- no session of a number is seen
+none_from : (r : Option SessionKept) → option_map session_seen r ≡ None → r ≡ None
+none_from None e = refl
+none_from (Some z) e = absurd cc
+
+pub fresh : (zs : List SessionKept) (n : ℕ) → session_of (sessions_seen zs) n ≡ None → kept_of zs n ≡ None
+fresh zs n h = none_from (kept_of zs n) (sym (session_seen_of zs n) ∙ h)
+
+-- what was found in a list that is the same
+pub session_found : (zs hs : List SessionKept) (n : ℕ) (z : SessionKept) → hs ≡ zs → Some z ≡ kept_of hs n → session_of (sessions_seen zs) n ≡ Some (session_seen z)
+session_found zs hs n z same is =
+    session_seen_of zs n ∙ ap (λ (l : List SessionKept). option_map session_seen (kept_of l n)) (sym same) ∙ ap (λ (o : Option SessionKept). option_map session_seen o) (sym is)
+
+pub session_none : (zs hs : List SessionKept) (n : ℕ) → hs ≡ zs → None ≡ kept_of hs n → session_of (sessions_seen zs) n ≡ None
+session_none zs hs n same is =
+    session_seen_of zs n ∙ ap (λ (l : List SessionKept). option_map session_seen (kept_of l n)) (sym same) ∙ ap (λ (o : Option SessionKept). option_map session_seen o) (sym is)
+
+-- a reference to what is in an option
+pub borrowed : {A B : Type 0} (f : A → B) (r : Option (Bor A)) → option_map (λ u. f u.now) r ≡ option_map f (option_copied r)
+borrowed f None = refl
+borrowed f (Some u) = refl

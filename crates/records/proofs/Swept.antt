@@ -1,9 +1,9 @@
 -- Closing the records of all sessions, one session after another.
-use Rattle.std.proofs.Common.{◌≡◌, ℕ, zero, suc, ◌+◌, ◌<◌, ◌≤◌, List, [], ◌∷◌, ◌++◌, length, take, drop, get_or, set, Option, refl, sym, ap, ◌∙◌, arith}
+use Rattle.std.proofs.Common.{◌≡◌, ℕ, zero, suc, ◌<◌, ◌≤◌, List, [], ◌∷◌, ◌++◌, length, take, drop, get_or, set, Option, refl, sym, ap, ◌∙◌, arith}
 use Rattle.records.specs.declared.record.Kept.{Kept}
 use Rattle.records.specs.declared.session.SessionKept.{SessionKept}
 use Rattle.records.specs.Book.{Session, Records, with_open, swept, all_swept}
-use Rattle.records.specs.Seen.{session_seen, sessions_seen, numbers_of, records_seen}
+use Rattle.records.specs.Seen.{session_seen, sessions_seen}
 
 -- what is left to do, behind what was done
 abbrev pub behind : List Session → Records → Records

@@ -1,5 +1,5 @@
 -- A book of records: what each call makes of it (TS 32.255, 5.2.3; TS 32.298, 5.1.5.0).
-use Rattle.std.specs.Prelude.{ℕ, ◌+◌, ◌==◌, nat_lt, Bool, true, false, List, [], ◌∷◌, ◌++◌, length, map, Option, Some, None, option_map, if◌then◌else◌}
+use Rattle.std.specs.Prelude.{ℕ, ◌+◌, ◌==◌, nat_lt, Bool, List, [], ◌∷◌, ◌++◌, length, Option, Some, None, if◌then◌else◌}
 use Rattle.units.specs.declared.request.UnitUsage.{UnitUsage}
 use Rattle.records.specs.declared.limits.RecordLimits.{RecordLimits}
 use Rattle.records.specs.declared.record.Kept.{Kept}

@@ -140,12 +140,33 @@ fn make_room_in(
     requires apart { AreApart used.now }
     ensures room { OnOk result (IfSome (kept_of sessions.new number) (λ z. IfSome z.unclosed (λ u. HasRoom u used.now))) }
     ensures kept { sessions_seen sessions.new ≡ sessions_seen sessions.old }
+    ensures numbers { numbers_of sessions.new ≡ numbers_of sessions.old }
     ensures sequences { (n : ℕ) → SequencesAreWithin n sessions.old → SequencesAreWithin n sessions.new }
 {
     match place(numbers, number) {
         Some(at) => sessions[at].make_room(used),
         None => Ok(()),
     }
+}
+
+// The same of all sessions, with the room for more of them.
+fn make_room_of(
+    numbers: &[u32],
+    sessions: &mut Vec<SessionKept>,
+    number: u32,
+    used: &[UnitUsage],
+) -> Result<(), AllocError>
+    requires same { numbers.now ≡ numbers_of sessions.old.items }
+    requires rising { AreRising numbers.now }
+    requires apart { AreApart used.now }
+    ensures room { OnOk result (IfSome (kept_of sessions.new.items number) (λ z. IfSome z.unclosed (λ u. HasRoom u used.now))) }
+    ensures kept { sessions_seen sessions.new.items ≡ sessions_seen sessions.old.items }
+    ensures numbers { numbers_of sessions.new.items ≡ numbers_of sessions.old.items }
+    ensures sequences { (n : ℕ) → SequencesAreWithin n sessions.old.items → SequencesAreWithin n sessions.new.items }
+    ensures len { vec_len sessions.new ≡ vec_len sessions.old }
+    ensures capacity { vec_capacity sessions.new ≡ vec_capacity sessions.old }
+{
+    make_room_in(numbers, sessions, number, used)
 }
 
 // A session begins, in its place.
@@ -178,12 +199,7 @@ fn enter(numbers: &mut Vec<u32>, sessions: &mut Vec<SessionKept>, new: SessionKe
 }
 
 // Every record that has a container is closed, in order of their sessions.
-fn sweep_all(
-    alloc: Global,
-    sessions: &mut [SessionKept],
-    closed: &mut Vec<Kept>,
-    stamp: Moment,
-)
+fn sweep_all(alloc: Global, sessions: &mut [SessionKept], closed: &mut Vec<Kept>, stamp: Moment)
     requires spare { vec_len closed.old + length sessions.old ≤ vec_capacity closed.old }
     requires few { vec_len closed.old + length sessions.old < 2 ^ 32 - 1 }
     requires sequences { SequencesAreWithin (vec_len closed.old) sessions.old }
@@ -197,6 +213,24 @@ fn sweep_all(
     for session in sessions.iter_mut() {
         session.sweep(alloc, closed, stamp);
     }
+}
+
+// A record with the names of its session.
+fn name(limits: &RecordLimits, session: &SessionKept, kept: &Kept) -> Result<Record, OutOfMemory>
+    ensures { IfOk result (λ r. r ≡ named_as limits.now (session_seen session.now) kept.now) }
+{
+    Ok(Record {
+        function: copy(&limits.function)?,
+        subscriber: copy(&session.subscriber)?,
+        consumer: copy(&session.consumer)?,
+        charging_id: session.charging_id,
+        usage: copy(&kept.usage)?,
+        opening: kept.opening,
+        duration: kept.duration,
+        sequence: kept.sequence,
+        cause: kept.cause,
+        local: kept.local,
+    })
 }
 
 impl Book {
@@ -236,7 +270,7 @@ impl Book {
         self.sessions.reserve(1)?;
         self.closed.reserve(self.sessions.len() + 2)?;
         self.next.make_room(used)?;
-        make_room_in(&self.numbers, &mut self.sessions, session, used)?;
+        make_room_of(&self.numbers, &mut self.sessions, session, used)?;
         Ok(())
     }
 
@@ -346,18 +380,7 @@ impl Book {
         ensures { IfOk result (λ r. IfSome (session_of self.now.records.sessions kept.now.session) (λ z. r ≡ named_as self.now.limits z kept.now)) }
     {
         match found(&self.numbers, &self.sessions, kept.session) {
-            Some(session) => Ok(Record {
-                function: copy(&self.limits.function)?,
-                subscriber: copy(&session.subscriber)?,
-                consumer: copy(&session.consumer)?,
-                charging_id: session.charging_id,
-                usage: copy(&kept.usage)?,
-                opening: kept.opening,
-                duration: kept.duration,
-                sequence: kept.sequence,
-                cause: kept.cause,
-                local: kept.local,
-            }),
+            Some(session) => name(&self.limits, session, kept),
             None => unreachable!(),
         }
     }

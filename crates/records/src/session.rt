@@ -109,7 +109,11 @@ impl SessionKept {
         if let Some(record) = self.unclosed.take() {
             let mut record = record;
             record.add(used);
-            let cause = if last { None } else { record.cause(limits, stamp) };
+            let cause = if last {
+                None
+            } else {
+                record.cause(limits, stamp)
+            };
             self.unclosed = Some(settle(alloc, closed, record, cause, stamp));
         }
     }
@@ -143,7 +147,11 @@ impl SessionKept {
         ensures sequence { SequenceIsWithin (vec_len closed.new) self.new }
     {
         if let Some(record) = self.unclosed.take() {
-            let cause = if record.has_container() { Some(20) } else { None };
+            let cause = if record.has_container() {
+                Some(20)
+            } else {
+                None
+            };
             self.unclosed = Some(settle(alloc, closed, record, cause, stamp));
         }
     }

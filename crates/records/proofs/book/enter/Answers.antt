@@ -1,9 +1,7 @@
-use Rattle.std.proofs.Common.{◌≡◌, ◌∙◌, ℕ, List, Option, Some, None, sym, ap, subst, refl}
+use Rattle.std.proofs.Common.{◌≡◌, ◌∙◌, ℕ, List, sym, ap, subst}
 use Rattle.std.specs.List.{insert}
-use Rattle.records.specs.declared.session.SessionKept.{SessionKept}
-use Rattle.records.specs.Seen.{numbers_of, AreRising, IsThere, SequencesAreWithin}
+use Rattle.records.specs.Seen.{numbers_of, AreRising, IsThere}
 use Rattle.records.proofs.Entered as e
-use Rattle.records.proofs.Found as f
 use Rattle.records.proofs.Sessions as s
 use Rattle.records.proofs.book.enter.Goals as goal
 

@@ -1,4 +1,4 @@
-use Rattle.std.proofs.Common.{sym, subst, ap, ◌∙◌}
+use Rattle.std.proofs.Common.{sym}
 use Rattle.records.proofs.Found as f
 use Rattle.records.proofs.Sessions as s
 use Rattle.records.proofs.book.found.Goals as goal

@@ -1,9 +1,9 @@
-use Rattle.std.proofs.Common.{◌≡◌, ◌<◌, ◌+◌, ◌∙◌, suc, take, drop, length, get_or, set, sym, ap, add-one, arith}
+use Rattle.std.proofs.Common.{◌<◌, ◌∙◌, length, get_or, ap, add-one, arith}
 use Rattle.std.proofs.lemmas.List.{length-map}
 use Rattle.records.specs.declared.session.SessionKept.{SessionKept}
-use Rattle.records.specs.Book.{Session, all_swept}
-use Rattle.records.specs.Seen.{sessions_seen, numbers_of}
-use Rattle.records.proofs.Swept.{behind, one_swept}
+use Rattle.records.specs.Book.{Session}
+use Rattle.records.specs.Seen.{numbers_of}
+use Rattle.records.proofs.Swept.{one_swept}
 use Rattle.records.proofs.Sessions as s
 use Rattle.records.proofs.book.sweep_all.Goals as goal
 

@@ -11,5 +11,5 @@ invariant-loop-session l = record {
   sequences : SequencesAreWithin (vec_len l.closed) l.sessions;
   capacity : vec_capacity l.closed ≡ vec_capacity l.initial.closed;
   len : vec_len l.closed ≤ vec_len l.initial.closed + l.session-index;
-  kept : vec_len l.initial.closed ≤ vec_len l.closed
+  kept : vec_len l.initial.closed ≤ vec_len l.closed;
 }
