@@ -13,6 +13,7 @@ pub mod Sends
 pub mod Effects
 pub mod Losses
 pub mod Traces
+pub mod Flights
 pub mod Limits
 pub mod Prefixes
 pub mod Lookups

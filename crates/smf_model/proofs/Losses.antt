@@ -1,12 +1,11 @@
 -- A session and its moves, through attempts and their ends.
-use Rattle.std.proofs.Common.{◌≡◌, ℕ, Bool, true, false, cond, List, [], ◌∷◌, ◌++◌, map, refl, sym, ◌∙◌, ap}
+use Rattle.std.proofs.Common.{◌≡◌, ℕ, true, false, List, [], ◌∷◌, ◌++◌, map, refl, sym, ◌∙◌}
 use Rattle.std.specs.Prelude.{Option, Some, None, is_some}
 use Rattle.std.specs.List.{AllByRecursion}
 use Rattle.units.specs.declared.trigger.TriggerType.TheVariants.{AbnormalRelease}
-use Rattle.sessions.specs.Trace.{Move, phase, flight, is_unsent, Admits}
-use Rattle.sessions.specs.Trace.Move.{Attempts, NotSent, NoReply, GivesUp}
+use Rattle.sessions.specs.Trace.{Move, flight, Admits}
+use Rattle.sessions.specs.Trace.Move.{Attempts, GivesUp}
 use Rattle.sessions.specs.Trace.Cause.{WasNotSent}
-use Rattle.sessions.specs.Trace.Phase.{Asked}
 use Rattle.smf_model.specs.declared.setup.SmfSetup.{SmfSetup}
 use Rattle.smf_model.specs.declared.session.Peer.{Peer}
 use Rattle.smf_model.specs.declared.session.Loss.{Loss}

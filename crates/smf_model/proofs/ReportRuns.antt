@@ -1,6 +1,5 @@
 -- After any events the containers of a session are cuts of its reports.
 use Rattle.smf_model.specs.declared.session.Loss.TheVariants.{Unsent, Unanswered}
-use Rattle.smf_model.specs.declared.session.Loss.{Loss}
 use Rattle.smf_model.proofs.Lasts.{same_self}
 use Rattle.smf_model.specs.Sending.{attempted}
 use Rattle.std.proofs.Common.{◌≡◌, ℕ, ◌==◌, Bool, true, false, cond, List, [], ◌∷◌, ◌++◌, refl, sym, ap, subst, append_assoc, append-nil}

@@ -1,5 +1,5 @@
 -- How far the sending of the unanswered request is, by the moves.
-use Rattle.std.proofs.Common.{◌≡◌, ℕ, ◌-◌, ◌&&◌, Bool, true, false, cond, List, [], ◌∷◌, ◌++◌, refl, sym, ◌∙◌, ap, append_assoc}
+use Rattle.std.proofs.Common.{◌≡◌, ℕ, ◌-◌, ◌&&◌, Bool, true, false, cond, List, ◌∷◌, ◌++◌, refl, sym, ◌∙◌, ap, append_assoc}
 use Rattle.std.specs.Prelude.{Option, Some, None, is_some}
 use Rattle.units.specs.declared.trigger.TriggerType.TheVariants.{Final, AbnormalRelease}
 use Rattle.units.specs.declared.request.Operation.{Operation}
@@ -7,7 +7,7 @@ use Rattle.units.specs.declared.request.Request.{Request}
 use Rattle.units.specs.declared.reply.Reply.{Reply}
 use Rattle.units.specs.declared.reply.Reply.TheVariants.{Created, Updated, Released, Refused}
 use Rattle.sessions.specs.Trace.{Move, flight, is_unsent}
-use Rattle.sessions.specs.Trace.Move.{Freezes, Attempts, NotSent, NoReply, GivesUp, Answers}
+use Rattle.sessions.specs.Trace.Move.{Freezes, Attempts, Answers}
 use Rattle.smf_model.specs.declared.setup.SmfSetup.{SmfSetup}
 use Rattle.smf_model.specs.declared.session.Peer.{Peer}
 use Rattle.smf_model.specs.declared.session.Loss.{Loss}
@@ -23,7 +23,7 @@ use Rattle.smf_model.specs.Traffic.{detached}
 use Rattle.smf_model.specs.Rounds.{with_loss, lost}
 use Rattle.smf_model.specs.Replies.{replied, answered_by}
 use Rattle.smf_model.specs.Machine.{touches, effect, finished}
-use Rattle.smf_model.specs.Trace.{closes_all, settle_moves, freeze_moves, freeze_moves_by, drop_moves, finish_moves, ending_moves, reply_moves, loss_move, lost_moves, effect_moves}
+use Rattle.smf_model.specs.Trace.{closes_all, settle_moves, freeze_moves, freeze_moves_by, finish_moves, ending_moves, reply_moves, loss_move, lost_moves, effect_moves}
 use Rattle.smf_model.proofs.Losing.{KeptByLoss, lost_kept, still_asked}
 use Rattle.smf_model.proofs.Lifting.{IsNew}
 use Rattle.smf_model.proofs.Placed.{LeavesRequests, closes_leave, drops_leave}

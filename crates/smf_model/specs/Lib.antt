@@ -26,3 +26,4 @@ pub mod Excess
 pub mod Apart
 pub mod Ended
 pub mod Sent
+pub mod Flights

@@ -1,12 +1,15 @@
 //! What holds of all lists of events.
-ghost use Rattle.std.specs.Prelude.{◌≡◌, ◌++◌, ◌∷◌, ℕ, List};
+ghost use Rattle.std.specs.Prelude.{◌≡◌, ◌↔◌, ◌++◌, ◌∷◌, ℕ, None, List};
 ghost use Rattle.smf_model.specs.declared.setup.SmfSetup.{SmfSetup};
+ghost use Rattle.smf_model.specs.declared.session.Peer.{Peer};
 ghost use Rattle.smf_model.specs.declared.event.SmfEvent.{SmfEvent};
+ghost use Rattle.smf_model.specs.declared.event.SmfEvent.TheVariants.{Attempt, NotSent, NoReply, Restart};
 ghost use Rattle.smf_model.specs.Machine.{machine_after, session_of, answer_of};
 ghost use Rattle.smf_model.specs.Forward.{IsLaterSession};
-ghost use Rattle.sessions.specs.Trace.{IsTrace};
+ghost use Rattle.sessions.specs.Trace.{IsTrace, flight};
 ghost use Rattle.smf_model.specs.Trace.{trace, moves_if, AgreesWith};
 ghost use Rattle.smf_model.specs.Sent.{IsSentAsMoved};
+ghost use Rattle.smf_model.specs.Flights.{IsStep, Begins, Flies};
 ghost use Rattle.smf_model.specs.Places.{StandsAsMoved};
 ghost use Rattle.smf_model.specs.Exact.{ArePlacedExactly};
 ghost use Rattle.smf_model.specs.Contents.{AreContents};
@@ -57,6 +60,23 @@ pub fn places_by_moves()
 /// the moves say so (TS 32.290, 5.3.2 and failure handling).
 pub fn sending_by_moves()
     ensures { (setup : SmfSetup) (events : List SmfEvent) (number : ℕ) → IsSentAsMoved (trace setup events number) (session_of number (machine_after setup events).sessions) }
+{}
+
+/// A law of events; it does nothing. An attempt that is a step is the next one of its session and has no end, and the unanswered request stays as
+/// it was (TS 32.290, failure handling).
+pub fn attempts_begin()
+    ensures { (setup : SmfSetup) (events : List SmfEvent) (session : ℕ) (peer : Peer)
+        → IsStep setup events (Attempt session peer) → Begins (trace setup events session) (trace setup (Attempt session peer ∷ events) session) }
+{}
+
+/// A law of events; it does nothing. The end of an attempt is a step exactly where an attempt of the session has no end; after it, and after a
+/// restart that is a step, the session has none in flight (TS 32.290, failure handling).
+pub fn attempts_end()
+    ensures not_sent { (setup : SmfSetup) (events : List SmfEvent) (session : ℕ) → IsStep setup events (NotSent session) → flight (trace setup (NotSent session ∷ events) session) ≡ None }
+    ensures no_reply { (setup : SmfSetup) (events : List SmfEvent) (session : ℕ) → IsStep setup events (NoReply session) → flight (trace setup (NoReply session ∷ events) session) ≡ None }
+    ensures restart { (setup : SmfSetup) (events : List SmfEvent) (session : ℕ) → IsStep setup events Restart → flight (trace setup (Restart ∷ events) session) ≡ None }
+    ensures not_sent_is_step { (setup : SmfSetup) (events : List SmfEvent) (session : ℕ) → IsStep setup events (NotSent session) ↔ Flies (trace setup events session) }
+    ensures no_reply_is_step { (setup : SmfSetup) (events : List SmfEvent) (session : ℕ) → IsStep setup events (NoReply session) ↔ Flies (trace setup events session) }
 {}
 
 /// A law of events; it does nothing. What events did to a session stands whatever events come after them; so each request, its number and
