@@ -7,3 +7,4 @@ pub mod Found
 pub mod Entered
 pub mod Swept
 pub mod Begun
+pub mod Once

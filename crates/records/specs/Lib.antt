@@ -5,3 +5,4 @@ pub mod Closing
 pub mod Book
 pub mod Seen
 pub mod Named
+pub mod Once
