@@ -40,6 +40,7 @@ machine c = record { state = state_seen c; consumers = c.keyed.consumers.list; p
 -- what holds of its fields
 pub record IsIndexed (c : Inside) : Type 0 where
   pub none : c.no_tariffs ≡ []
+  pub unbarred : c.none_barred ≡ []
   pub places : (k : Key) → kept_place c.keyed k ≡ place_of (state_seen c) k
   pub references : (n : Name) → kept_reference c.keyed n ≡ reference_of (state_seen c) n
   pub known : AreKnown c.keyed

@@ -1,6 +1,7 @@
 -- The machine as its callers see it, what it decides, and when a plan may be committed (TS 32.290, 5.3.2; this
 -- product's own).
-use Rattle.std.specs.Prelude.{◌≡◌, ◌<◌, ◌≤◌, ◌+◌, ◌-◌, ◌^◌, ◌⊎◌, ⊤, true, ℕ, List, length, reverse, slice_get, Option, Some, None}
+use Rattle.std.specs.Prelude.{◌≡◌, ◌<◌, ◌≤◌, ◌+◌, ◌-◌, ◌^◌, ◌⊎◌, ⊤, true, ℕ, nat_eq, List, length, reverse, slice_get, Option, Some, None}
+use Rattle.std.specs.HashSet.{contains}
 use Rattle.units.specs.declared.request.Operation.{Operation}
 use Rattle.units.specs.declared.request.Operation.TheVariants.{Create}
 use Rattle.units.specs.declared.request.Request.{Request}
@@ -16,6 +17,7 @@ use Rattle.chf_core.specs.declared.decision.Decision.TheVariants as decided
 use Rattle.chf_core.specs.declared.decision.Verdict.TheVariants.{Kept, Known, Refused, Fresh}
 use Rattle.chf_core.specs.declared.session.Session.{Session}
 use Rattle.chf_core.specs.Sessions.{id_of, supi_of}
+use Rattle.chf_core.specs.Barring.{bars}
 use Rattle.chf_core.specs.Keys.{key}
 use Rattle.chf_core.specs.Decisions.{is_fresh}
 use Rattle.chf_core.specs.Named.{IsProvided}
@@ -63,7 +65,8 @@ Writes m (Setup setup) change.Setup = ⊤
 Writes m (Charge q) (change.Charge charging_id session consumer) =
     (key_of m.state q ≡ Some (key q.consumer charging_id q.number))
     × ((session ≡ session_by q.operation q (account_for m.state q.subscriber)) × IsProvided m.consumers q.consumer consumer)
-Writes m (Subscriber supi account barred) (change.Subscriber name) = IsProvided m.state.names account name
+Writes m (Subscriber supi account barred) (change.Subscriber name groups) =
+    IsProvided m.state.names account name × ((group : ℕ) → contains nat_eq groups group ≡ bars barred group)
 Writes m (TopUp id account amount) change.TopUp = ⊤
 Writes m (Expire moment) change.Expire = ⊤
 Writes m other change = ⊥

@@ -6,6 +6,7 @@ ghost use Rattle.chf_core.specs.State.{nothing_yet, reference_of, kept_at};
 ghost use Rattle.chf_core.specs.After.{after};
 ghost use Rattle.chf_core.specs.Machine.{account_name, Answers, IsReady, MayWantMemory};
 
+use crate::barred::Barred;
 use crate::command::{Command, Outcome};
 use crate::decision::{Decision, Plan};
 use crate::found_requests::found_at;
@@ -30,6 +31,7 @@ pub struct Chf {
     pub(crate) no_tariffs: Tariffs,
     pub(crate) count: u32,
     pub(crate) names: Names,
+    pub(crate) none_barred: Barred,
     pub(crate) subscribers: TextTable<Subscription>,
     pub(crate) topups: TextTable<Sum>,
     pub(crate) sessions: Vec<Session>,
@@ -75,6 +77,7 @@ impl Chf {
             no_tariffs: Tariffs::new(alloc),
             count: 0,
             names: Names::new(alloc),
+            none_barred: Barred::none(alloc),
             subscribers: TextTable::new(alloc),
             topups: TextTable::new(alloc),
             sessions: Vec::new(alloc),

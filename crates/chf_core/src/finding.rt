@@ -7,6 +7,7 @@ ghost use Rattle.chf_core.specs.State.{at_text, account_named, account_of, accou
 ghost use Rattle.chf_core.specs.CommandMoves.{target_of, supi_by};
 ghost use Rattle.chf_core.specs.Deciding.{is_repeat};
 
+use crate::barred::Barred;
 use crate::chf::Chf;
 use crate::found_requests::found_at;
 use crate::kept_request::KeptRequest;
@@ -197,12 +198,12 @@ impl Chf {
     }
 
     /// The groups that are barred for the subscriber of a request.
-    pub(crate) fn barred(&self, request: &Request) -> &[u32]
+    pub(crate) fn barred(&self, request: &Request) -> &Barred
         ensures { result.now ≡ barred_in (at_text self.now.state.subscribers (supi_by request.now.operation self.now.state request.now)) }
     {
         match self.subscribers.get(supi_for(&self.sessions, request)) {
-            Some(row) => row.barred.as_slice(),
-            None => &[],
+            Some(row) => &row.barred,
+            None => &self.none_barred,
         }
     }
 }

@@ -11,6 +11,7 @@ ghost use Rattle.chf_core.specs.CommandMoves.{target_of, rating_of, moves_of, in
 ghost use Rattle.chf_core.specs.Deciding.{decision, outcome_of};
 ghost use Rattle.chf_core.specs.Machine.{Machine, IsReady, IsWorkedOut, Writes, new_session, session_by};
 
+use crate::barred::set_of;
 use crate::chf::Chf;
 use crate::command::{Command, Outcome};
 use crate::decision::{Change, Plan};
@@ -192,6 +193,7 @@ impl Chf {
             moves,
             change: Change::Subscriber {
                 name: name_for(alloc, &self.names, account)?,
+                groups: set_of(alloc, barred.as_slice())?,
             },
         })
     }

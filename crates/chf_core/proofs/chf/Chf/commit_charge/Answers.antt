@@ -42,6 +42,7 @@ invariant_of-self c =
     let none : place_of (state_seen t) own ≡ None = ap (λ (x : State). place_of x own) seen ∙ fresh_place s q own c.args.outcome writes.0 c.requires.fresh in
     record {
       none = i.none;
+      unbarred = i.unbarred;
       places = λ k.
           c.enter_key.ensures.places k ∙ ap (cond (key_eq own k) (Some t.count)) (i.places k)
           ∙ entered_first (place_of (state_seen t)) own k t.count none

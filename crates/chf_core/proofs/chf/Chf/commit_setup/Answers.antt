@@ -15,6 +15,7 @@ invariant_of-self c =
     let new_is : state_seen (record t { setup = Some c.args.setup; count = t.count + 1 }) ≡ after c.args.self.now.state (Setup c.args.setup) = search rules in
     record {
       none = i.none;
+      unbarred = i.unbarred;
       places = i.places;
       references = i.references;
       known = i.known;

@@ -15,6 +15,7 @@ invariant_of-self c =
     let new_is : state_seen (record t { count = t.count + 1; names = c.number_name.new.names; subscribers = c.put.new.self; accounts = c.make_all.new.self }) ≡ after c.args.self.now.state (Subscriber c.args.supi c.args.account c.args.barred) = search rules in
     record {
       none = i.none;
+      unbarred = i.unbarred;
       places = i.places;
       references = i.references;
       known = i.known;

@@ -16,6 +16,7 @@ invariant_of-result c =
     let requests = c.new-7.ensures.items in
     record {
       none = c.new.ensures;
+      unbarred = c.none.ensures;
       places = λ x. k.places x ∙ sym (ap (λ (l : List KeptRequest). option_map (λ (r : KeptRequest). r.place) (find (λ r. key_eq (kept_key r) x) l)) requests);
       references = λ n. k.references n ∙ sym (ap (λ (l : List Session). reference_in (reverse (each name_of l)) n) sessions);
       known = k.known;
