@@ -1,6 +1,6 @@
 -- The machine as its callers see it, what it decides, and when a plan may be committed (TS 32.290, 5.3.2; this
 -- product's own).
-use Rattle.std.specs.Prelude.{◌≡◌, ◌<◌, ◌≤◌, ◌+◌, ◌-◌, ◌^◌, ◌⊎◌, ⊤, true, ℕ, nat_eq, List, length, reverse, slice_get, Option, Some, None}
+use Rattle.std.specs.Prelude.{◌≡◌, ◌<◌, ◌≤◌, ◌+◌, ◌-◌, ◌^◌, ◌==◌, ◌⊎◌, ⊤, true, ℕ, nat_eq, List, length, reverse, slice_get, Option, Some, None}
 use Rattle.std.specs.HashSet.{contains}
 use Rattle.units.specs.declared.request.Operation.{Operation}
 use Rattle.units.specs.declared.request.Operation.TheVariants.{Create}
@@ -24,6 +24,7 @@ use Rattle.chf_core.specs.Named.{IsProvided}
 use Rattle.chf_core.specs.State.{State, account_for, key_of}
 use Rattle.chf_core.specs.CommandMoves.{moves_of}
 use Rattle.chf_core.specs.Deciding.{decision, outcome_of}
+use Rattle.chf_core.specs.After.{is_setup}
 
 -- the state; and what callers need not look at: the names of the consumers, and for how many more commands and moves of
 -- money there is room
@@ -79,8 +80,9 @@ pub record IsWorkedOut (m : Machine) (c : Command) (p : Plan) : Type 0 where
   pub makeable : AreMakeable p.moves m.state.money
   pub change : Writes m c p.change
 
--- a plan is ready where its command is fresh, all that comes of it is worked out, and there is room for it
+-- a plan is ready where its command is fresh, and a setup the first one and no other, all that comes of it is worked out, and there is room for it
 pub record IsReady (m : Machine) (p : Plan) : Type 0 where
+  pub order : is_setup p.command ≡ (m.state.count == 0)
   pub fresh : decision m.state p.command ≡ Fresh p.outcome
   pub worked_out : IsWorkedOut m p.command p
   pub spare : length p.moves ≤ m.moves
