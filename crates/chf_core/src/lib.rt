@@ -42,6 +42,7 @@ mod names;
 mod numbered;
 mod operator_moves;
 mod planning;
+mod problems;
 mod refusal;
 mod reply;
 mod session;
@@ -63,6 +64,7 @@ pub use laws::{
     ledger_is_whole, money_balances, numbers_are_used_once, repeats_get_first_replies,
     replies_stand, sums_are_bounded, use_within_grants_owes_nothing, verdicts_suit_commands,
 };
+pub use problems::{problem, refusal_reply};
 pub use refusal::ChfRefusal;
 pub use session_laws::{
     first_replies_fit, kept_requests_grow, keys_stand, ledger_is_by_sessions, sessions_decide,
