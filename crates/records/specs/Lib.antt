@@ -8,3 +8,4 @@ pub mod Named
 pub mod Once
 pub mod Fields
 pub mod Written
+pub mod Grammar

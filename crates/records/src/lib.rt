@@ -19,6 +19,7 @@ mod filing;
 mod group;
 mod laws;
 mod limits;
+mod place;
 mod record;
 mod session;
 mod sums;
