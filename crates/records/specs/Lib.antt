@@ -9,3 +9,4 @@ pub mod Once
 pub mod Fields
 pub mod Written
 pub mod Grammar
+pub mod Reading

@@ -36,7 +36,7 @@ pub enum Place {
     Unknown,
 }
 
-fn is_field(number: u32) -> bool
+pub fn is_field(number: u32) -> bool
     ensures { result ≡ is_field number }
 {
     number <= 3 || 5 <= number && number <= 9 || number == 11 || number == 13
