@@ -10,6 +10,7 @@ ghost use Rattle.chf_core.specs.KeyTable.{kept_place, kept_reference, AreKnown, 
 ghost use Rattle.chf_core.specs.After.{after};
 ghost use Rattle.chf_core.specs.Machine.{IsReady, session_by};
 
+use crate::barred::Barred;
 use crate::chf::Chf;
 use crate::command::{Command, Outcome};
 use crate::decision::{Change, Plan};
@@ -176,13 +177,18 @@ impl Chf {
         requires { IsReady self.old (record { command = Command.Subscriber supi account barred; outcome = outcome; moves = moves; change = change }) }
         ensures { self.new.state ≡ after self.old.state (Command.Subscriber supi account barred) }
     {
-        let Change::Subscriber { name } = change else {
+        let Change::Subscriber { name, groups } = change else {
             unreachable!();
         };
         self.accounts.make_all(moves.as_slice());
         number_name(&mut self.names, account.as_str(), name);
-        self.subscribers
-            .put(supi.into_string(), Subscription { account, barred });
+        self.subscribers.put(
+            supi.into_string(),
+            Subscription {
+                account,
+                barred: Barred::with(barred, groups),
+            },
+        );
         self.count += 1;
     }
 

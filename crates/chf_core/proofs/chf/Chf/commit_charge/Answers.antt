@@ -1,4 +1,4 @@
-use Rattle.std.proofs.Common.{rules, ◌≡◌, ◌&&◌, ◌+◌, List, length, map as each, reverse, find, cond, is_some, option_map, Some, None, refl, sym, ap, ◌∙◌, subst, arith}
+use Rattle.std.proofs.Common.{rules, ◌≡◌, ◌==◌, ◌&&◌, ◌+◌, List, length, map as each, reverse, find, cond, is_some, option_map, Some, None, refl, sym, ap, ◌∙◌, subst, arith}
 use Rattle.chf_core.specs.declared.command.Command.TheVariants.{Charge}
 use Rattle.sessions.specs.Content.{content}
 use Rattle.chf_core.specs.declared.decision.Change.TheVariants as change
@@ -41,7 +41,8 @@ invariant_of-self c =
     let reference = c.reference_for-reference.ensures ∙ (λ j. option_map (λ _. length (c.deref.ensures.value j) + 1) (writes.1.0 j)) in
     let none : place_of (state_seen t) own ≡ None = ap (λ (x : State). place_of x own) seen ∙ fresh_place s q own c.args.outcome writes.0 c.requires.fresh in
     record {
-      none = i.none;
+      set_up = λ e. i.set_up (ap (λ (m : Machine). m.state.count == 0) c.self.view_is ∙ sym c.requires.order);
+      unbarred = i.unbarred;
       places = λ k.
           c.enter_key.ensures.places k ∙ ap (cond (key_eq own k) (Some t.count)) (i.places k)
           ∙ entered_first (place_of (state_seen t)) own k t.count none
