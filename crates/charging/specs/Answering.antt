@@ -16,7 +16,7 @@ use Rattle.chf_core.specs.After.{after}
 use Rattle.chf_core.specs.Standing.{reply_to}
 use Rattle.chf_rows.specs.OperatorRow.{command_of}
 use Rattle.charging.specs.declared.item.Item.{Item}
-use Rattle.charging.specs.declared.item.Item.TheVariants.{Blank, Row, Message, Bad}
+use Rattle.charging.specs.declared.item.Item.TheVariants.{Row, Message}
 use Rattle.charging.specs.Routing.{request_at}
 use Rattle.charging.specs.AccountLines.{account_lines}
 
