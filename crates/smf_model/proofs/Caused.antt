@@ -37,7 +37,7 @@ use Rattle.smf_model.proofs.Effects.{is_final_answer}
 use Rattle.smf_model.proofs.Traces.{StandsWhole, whole_run}
 
 -- moves that are no replies
-abbrev NoReplies : List Move → Type 0
+abbrev pub NoReplies : List Move → Type 0
 NoReplies [] = Unit {0}
 NoReplies (Answers p ∷ ms) = ⊥
 NoReplies (Closes c ∷ ms) = NoReplies ms
@@ -59,7 +59,7 @@ before_caused event number t (NotSent ∷ xs) ys n a = (tt, before_caused event 
 before_caused event number t (NoReply ∷ xs) ys n a = (tt, before_caused event number t xs ys n a)
 before_caused event number t (GivesUp ∷ xs) ys n a = (tt, before_caused event number t xs ys n a)
 
-both_none : (xs ys : List Move) → NoReplies xs → NoReplies ys → NoReplies (xs ++ ys)
+pub both_none : (xs ys : List Move) → NoReplies xs → NoReplies ys → NoReplies (xs ++ ys)
 both_none [] ys n m = m
 both_none (Answers p ∷ xs) ys n m = absurd n
 both_none (Closes c ∷ xs) ys n m = both_none xs ys n m
@@ -70,7 +70,7 @@ both_none (NotSent ∷ xs) ys n m = both_none xs ys n m
 both_none (NoReply ∷ xs) ys n m = both_none xs ys n m
 both_none (GivesUp ∷ xs) ys n m = both_none xs ys n m
 
-closes_none : (m : ℕ) (closing : Holding → Option TriggerType) (hs : List Holding) → NoReplies (closes_of m closing hs)
+pub closes_none : (m : ℕ) (closing : Holding → Option TriggerType) (hs : List Holding) → NoReplies (closes_of m closing hs)
 closes_none m closing [] = tt
 closes_none m closing (h ∷ hs) = at (closing h) (closes_none m closing hs)
   where
@@ -90,7 +90,7 @@ freeze_none : (next : Option Operation) (setup : SmfSetup) (now : ℕ) (s : Sess
 freeze_none None setup now s = tt
 freeze_none (Some o) setup now s = tt
 
-finish_none : (setup : SmfSetup) (now : ℕ) (s : Session) → NoReplies (finish_moves setup now s)
+pub finish_none : (setup : SmfSetup) (now : ℕ) (s : Session) → NoReplies (finish_moves setup now s)
 finish_none setup now s =
     let v : Session = settled setup now s in
     let w : Session = freeze_due setup now v in
@@ -110,7 +110,7 @@ none_caused event number t (NoReply ∷ xs) n = (tt, none_caused event number t 
 none_caused event number t (GivesUp ∷ xs) n = (tt, none_caused event number t xs n)
 
 -- the number of the unanswered request
-newest_number : (t : List Move) (q : Request) → IsTrace t → unanswered t ≡ Some q → q.number ≡ length (requests t)
+pub newest_number : (t : List Move) (q : Request) → IsTrace t → unanswered t ≡ Some q → q.number ≡ length (requests t)
 newest_number [] q v e = cc
 newest_number (Closes c ∷ t) q v e = newest_number t q v.1 e
 newest_number (Drops d ∷ t) q v e = newest_number t q v.1 e
@@ -159,7 +159,7 @@ one_none : (loss : Loss) → NoReplies (loss_move loss ∷ [])
 one_none Unsent = tt
 one_none Unanswered = tt
 
-loss_none : (setup : SmfSetup) (now : ℕ) (loss : Loss) (s : Session) → NoReplies (lost_moves now loss s)
+pub loss_none : (setup : SmfSetup) (now : ℕ) (loss : Loss) (s : Session) → NoReplies (lost_moves now loss s)
 loss_none setup now loss s = subst NoReplies (append-nil (lost_moves now loss s)) (lost_kept (λ t u. NoReplies t) (λ o. Unit {0}) none_by_loss setup now loss [] s tt (one_none loss))
 
 effect_caused : (event : SmfEvent) (setup : SmfSetup) (now number : ℕ) (t : List Move) (s : Session) → (s.number == number) ≡ true → touches event s ≡ true → IsNew event s → StandsWhole t s → AreCaused event number t (effect_moves now event s)
@@ -181,7 +181,7 @@ session_caused : (b : Bool) (event : SmfEvent) (setup : SmfSetup) (now number : 
 session_caused true event setup now number t s is on new w = before_caused event number t (finish_moves setup now (effect setup now event s)) (effect_moves now event s) (finish_none setup now (effect setup now event s)) (effect_caused event setup now number t s is on new w)
 session_caused false event setup now number t s is on new w = tt
 
-created_none : (b : Bool) (xs : List Move) → NoReplies xs → NoReplies (cond b xs [])
+pub created_none : (b : Bool) (xs : List Move) → NoReplies xs → NoReplies (cond b xs [])
 created_none true xs n = n
 created_none false xs n = tt
 

@@ -13,7 +13,9 @@ pub mod Sends
 pub mod Effects
 pub mod Losses
 pub mod Traces
+pub mod Among
 pub mod Flights
+pub mod Givings
 pub mod Limits
 pub mod Prefixes
 pub mod Lookups
@@ -21,6 +23,7 @@ pub mod Lasts
 pub mod Reported
 pub mod Recounted
 pub mod ReportRuns
+pub mod Ordered
 pub mod GroupRuns
 pub mod Settles
 pub mod Exact
@@ -28,6 +31,7 @@ pub mod Contents
 pub mod ContentRuns
 pub mod Named
 pub mod Caused
+pub mod Finals
 pub mod Excess
 pub mod ExcessRuns
 pub mod Apart

@@ -27,3 +27,4 @@ pub mod Apart
 pub mod Ended
 pub mod Sent
 pub mod Flights
+pub mod Among

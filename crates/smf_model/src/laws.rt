@@ -1,5 +1,8 @@
 //! What holds of all lists of events.
 ghost use Rattle.std.specs.Prelude.{◌≡◌, ◌↔◌, ◌++◌, ◌∷◌, ℕ, None, List};
+ghost use Rattle.std.specs.List.Sorted.{IsNonDecreasingBy};
+ghost use Rattle.units.specs.declared.report.Report.{Report};
+ghost use Rattle.units.specs.Cut.{reports_of};
 ghost use Rattle.smf_model.specs.declared.setup.SmfSetup.{SmfSetup};
 ghost use Rattle.smf_model.specs.declared.session.Peer.{Peer};
 ghost use Rattle.smf_model.specs.declared.event.SmfEvent.{SmfEvent};
@@ -9,12 +12,13 @@ ghost use Rattle.smf_model.specs.Forward.{IsLaterSession};
 ghost use Rattle.sessions.specs.Trace.{IsTrace, flight};
 ghost use Rattle.smf_model.specs.Trace.{trace, moves_if, AgreesWith};
 ghost use Rattle.smf_model.specs.Sent.{IsSentAsMoved};
-ghost use Rattle.smf_model.specs.Flights.{IsStep, Begins, Flies};
+ghost use Rattle.smf_model.specs.Flights.{IsStep, Begins, Flies, IsGivenUp};
 ghost use Rattle.smf_model.specs.Places.{StandsAsMoved};
 ghost use Rattle.smf_model.specs.Exact.{ArePlacedExactly};
+ghost use Rattle.smf_model.specs.Among.{StandAmong};
 ghost use Rattle.smf_model.specs.Contents.{AreContents};
 ghost use Rattle.smf_model.specs.RequestNames.{AreNamed};
-ghost use Rattle.smf_model.specs.Causes.{AreCaused};
+ghost use Rattle.smf_model.specs.Causes.{AreCaused, AreFinal};
 ghost use Rattle.smf_model.specs.Excess.{EndsEvent};
 ghost use Rattle.smf_model.specs.Apart.{RequestsAreApart, SessionsAreApart};
 ghost use Rattle.smf_model.specs.Ended.{HoldsNothing};
@@ -55,6 +59,12 @@ pub fn places_by_moves()
     ensures exact { (setup : SmfSetup) (events : List SmfEvent) (number : ℕ) → ArePlacedExactly (trace setup events number) (session_of number (machine_after setup events).sessions) }
 {}
 
+/// A law of events; it does nothing. After any events each container that the moves of a session close is among its containers, and no number
+/// but those from 1 to their count is one: none such is closed or stands in a request (TS 32.255, 5.2.1).
+pub fn closes_are_its_own()
+    ensures { (setup : SmfSetup) (events : List SmfEvent) (number : ℕ) → StandAmong (trace setup events number) (session_of number (machine_after setup events).sessions) }
+{}
+
 /// A law of events; it does nothing. After any events the unanswered request of a session is the newest as it was frozen, marked as a repeat
 /// exactly where it has had an attempt; an attempt is in flight where its end has not come; and the attempts that ended are all unsent where
 /// the moves say so (TS 32.290, 5.3.2 and failure handling).
@@ -77,6 +87,13 @@ pub fn attempts_end()
     ensures restart { (setup : SmfSetup) (events : List SmfEvent) (session : ℕ) → IsStep setup events Restart → flight (trace setup (Restart ∷ events) session) ≡ None }
     ensures not_sent_is_step { (setup : SmfSetup) (events : List SmfEvent) (session : ℕ) → IsStep setup events (NotSent session) ↔ Flies (trace setup events session) }
     ensures no_reply_is_step { (setup : SmfSetup) (events : List SmfEvent) (session : ℕ) → IsStep setup events (NoReply session) ↔ Flies (trace setup events session) }
+{}
+
+/// A law of events; it does nothing. A session is given up unsent exactly where it was before, or where the event is the end of its attempt in
+/// flight, which did not leave and was the last of its round, the session does not go on without an answer, and no attempt of its request left
+/// before (TS 32.290, failure handling).
+pub fn given_up_unsent()
+    ensures { (setup : SmfSetup) (event : SmfEvent) (events : List SmfEvent) (number : ℕ) → IsGivenUp setup event events number }
 {}
 
 /// A law of events; it does nothing. What events did to a session stands whatever events come after them; so each request, its number and
@@ -136,6 +153,17 @@ pub fn requests_are_named()
 pub fn replies_are_caused()
     ensures { (setup : SmfSetup) (event : SmfEvent) (events : List SmfEvent) (number : ℕ)
         → AreCaused event number (trace setup events number) (moves_if (machine_after setup events) number event (answer_of (machine_after setup events) event)) }
+{}
+
+/// A law of events; it does nothing. After any events each reply that is an answer of a session was final for its unanswered request: the
+/// success of its operation, or a refusal that ends the session (TS 32.290, 5.3.2; TS 32.291, 6.1.7).
+pub fn answers_are_final()
+    ensures { (setup : SmfSetup) (events : List SmfEvent) (number : ℕ) → AreFinal (trace setup events number) }
+{}
+
+/// A law of events; it does nothing. After any events the counted reports of a rating group are in the order of their moments (TS 32.255, 5.2.1).
+pub fn reports_are_in_order()
+    ensures { (setup : SmfSetup) (events : List SmfEvent) (number group : ℕ) → IsNonDecreasingBy (λ (r : Report). r.moment) (reports_of group (reports setup events number)) }
 {}
 
 /// A law of events; it does nothing. What an event does to a session ends with what it gives up as too much: by the moves up to its

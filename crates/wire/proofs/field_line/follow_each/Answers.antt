@@ -1,7 +1,7 @@
 use Rattle.std.proofs.Common.{◌+◌, ◌-◌, ◌<◌, ◌∙◌, length, drop, arith, length-drop, length-take}
 use Rattle.std.proofs.lemmas.List.{get_or-drop, get_or-take}
 use Rattle.wire.proofs.Following.{follow_step}
-use Rattle.wire.proofs.field_line.follow.Goals as goal
+use Rattle.wire.proofs.field_line.follow_each.Goals as goal
 
 pub loop-byte-preserved : goal.loop-byte-preserved
 loop-byte-preserved c =
