@@ -8,3 +8,5 @@ pub mod Entered
 pub mod Swept
 pub mod Begun
 pub mod Once
+pub mod Pushed
+pub mod Utf

@@ -6,3 +6,5 @@ pub mod Book
 pub mod Seen
 pub mod Named
 pub mod Once
+pub mod Fields
+pub mod Written

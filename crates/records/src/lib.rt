@@ -14,6 +14,7 @@
 #![tactic(auto)]
 
 mod book;
+mod fields;
 mod filing;
 mod group;
 mod laws;
@@ -22,6 +23,7 @@ mod record;
 mod session;
 mod sums;
 mod unclosed;
+mod writing;
 
 pub use book::Book;
 pub use filing::Filing;
@@ -29,3 +31,4 @@ pub use laws::containers_stand_once;
 pub use limits::RecordLimits;
 pub use record::{Kept, Record};
 pub use unclosed::Unclosed;
+pub use writing::write_record;
