@@ -82,7 +82,7 @@ made_closing (Update r) t s = refl
 made_closing (Release r) t s = refl
 
 -- they make of the accounts what the request does to them
-made_request : (rating : Rating) (q : Request) (s : Money) (o : Option Target)
+pub made_request : (rating : Rating) (q : Request) (s : Money) (o : Option Target)
     → made (moves_for rating q s o) s ≡ used rating q s o
 made_request rating q s None = refl
 made_request rating q s (Some t) =

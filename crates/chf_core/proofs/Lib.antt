@@ -40,3 +40,5 @@ mod Switches
 mod InRange
 mod TextTables
 mod PlacedRequests
+pub mod OwnedState
+pub mod EnteredKeys

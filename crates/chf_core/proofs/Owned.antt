@@ -69,7 +69,7 @@ owned_lessened ss m k x own = by_case (map.get m k) (own k)
       | false ↦ owned_insert ss m k (record { account = r.account; left = r.left - x; deadline = r.deadline }) own p
     ]
 
-owned_without : (ss : List Session) (m : ReservationMap) (g : Ending) → AreOwned ss m → AreOwned ss (without m g)
+pub owned_without : (ss : List Session) (m : ReservationMap) (g : Ending) → AreOwned ss m → AreOwned ss (without m g)
 owned_without ss m g own q = subst (λ v. IfSome v (λ r. account_in ss q.session ≡ Some r.account)) (sym (without_at m g q))
     (either (not (ends g q (map.get m q))) (map.get m q) None (λ r. account_in ss q.session ≡ Some r.account) (own q) tt)
 
@@ -105,7 +105,7 @@ module _ (ss : List Session) (t : Target) (e : account_in ss t.session ≡ Some 
   owned_closed (Update r) s own = own
   owned_closed (Release r) s own = owned_without ss s.reservations (OfSession t.session) own
 
-  owned_used : (r : Rating) (o : Operation) (stamp : ℕ) (us : List UnitUsage) (s : State) → AreOwned ss s.reservations → AreOwned ss (used_by r t o stamp us s).reservations
+  pub owned_used : (r : Rating) (o : Operation) (stamp : ℕ) (us : List UnitUsage) (s : State) → AreOwned ss s.reservations → AreOwned ss (used_by r t o stamp us s).reservations
   owned_used r o stamp us s own = owned_closed o _ (owned_grants r stamp (asks_of us) (settled r t us s) (owned_released us (charged r.rates t us s) (owned_charged r.rates us s own)))
 
 -- sessions keep their accounts
@@ -113,12 +113,12 @@ some_lasting : (o : Option Lasting) (n : ℕ) → option_map (λ (l : Lasting). 
 some_lasting None n e = absurd (cc)
 some_lasting (Some l) n e = (l, refl)
 
-account_stays : (ss zz : List Session) (r n : ℕ) → Keeps ss zz → account_in ss r ≡ Some n → account_in zz r ≡ Some n
+pub account_stays : (ss zz : List Session) (r n : ℕ) → Keeps ss zz → account_in ss r ≡ Some n → account_in zz r ≡ Some n
 account_stays ss zz r n keeps e =
     let l = some_lasting (owner ss r) n e in
     ap (option_map (λ (l : Lasting). l.account)) (keeps r l.0 l.1 ∙ sym l.1) ∙ e
 
-owned_kept : (ss zz : List Session) (m : ReservationMap) → Keeps ss zz → AreOwned ss m → AreOwned zz m
+pub owned_kept : (ss zz : List Session) (m : ReservationMap) → Keeps ss zz → AreOwned ss m → AreOwned zz m
 owned_kept ss zz m keeps own k = by_case (map.get m k) (own k)
   where
     by_case : (w : Option Reservation) → IfSome w (λ r. account_in ss k.session ≡ Some r.account) → IfSome w (λ r. account_in zz k.session ≡ Some r.account)
@@ -162,7 +162,7 @@ owned (TopUp i n x ∷ a) = by_number (account_number a n) (owned a)
 owned (Expire m ∷ a) = owned_without (sessions a) (money a).reservations (Until m) (owned a)
 
 -- what a request charges owns all that is set aside for its session
-past_end : (ss : List Session) → account_in ss (length ss + 1) ≡ None
+pub past_end : (ss : List Session) → account_in ss (length ss + 1) ≡ None
 past_end ss =
     ap (λ b. option_map (λ (l : Lasting). l.account) (option_map (λ (z : Session). lasting z) (cond b None (slice_get ss (length ss + 1 - 1))))) (eq_no (length ss + 1) 0 (λ z. let h : length ss + 1 ≡ 0 = z in omega arith))
     ∙ ap (λ (o : Option Session). option_map (λ (l : Lasting). l.account) (option_map (λ (z : Session). lasting z) o)) (slice_get_past ss (length ss + 1 - 1) (omega arith))

@@ -33,3 +33,6 @@ pub mod OfSessions
 pub mod InRange
 pub mod TextTable
 pub mod Placed
+pub mod Owners
+pub mod Chf
+pub mod ChfKept

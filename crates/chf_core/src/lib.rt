@@ -23,6 +23,7 @@
 //! `use_request` and the trial; a table that is kept into `Caches` with its line in each commit.
 #![tactic(auto)]
 
+mod answering;
 mod asks;
 mod barred;
 mod chf;
@@ -31,6 +32,8 @@ mod commit;
 mod decision;
 mod draft;
 mod effect;
+mod entering;
+mod finding;
 mod fits;
 mod found_requests;
 mod give_back;
@@ -40,10 +43,14 @@ mod kept_request;
 mod key;
 mod key_table;
 mod laws;
+mod machine;
 mod names;
 mod numbered;
 mod operator;
+mod operator_moves;
 mod plan;
+mod planned;
+mod planning;
 mod reads;
 mod refusal;
 mod reply;

@@ -21,7 +21,7 @@ use std::alloc::Global;
 use units::{List, Operation, OutOfMemory, Request, Text, copy};
 
 // The copies of a name that has no number.
-fn name_for(alloc: Global, names: &Names, name: &Text) -> Result<Option<NewName>, OutOfMemory>
+pub fn name_for(alloc: Global, names: &Names, name: &Text) -> Result<Option<NewName>, OutOfMemory>
     ensures { IfOk result (λ new. IsProvided names.now.list name.now new) }
 {
     match names.find(name.as_str()) {
@@ -60,7 +60,7 @@ fn session_for(
     }
 }
 
-fn session_opened(
+pub fn session_opened(
     alloc: Global,
     request: &Request,
     account: Option<u32>,

@@ -19,7 +19,7 @@ use units::{
     name_of_cause,
 };
 
-fn user_unknown(alloc: Global) -> Result<Reply, OutOfMemory>
+pub fn user_unknown(alloc: Global) -> Result<Reply, OutOfMemory>
     ensures { IfOk result (λ r. r ≡ user_unknown) }
 {
     Ok(Reply::Refused {

@@ -16,7 +16,7 @@ use crate::subscription::{Subscription, Sum};
 use std::alloc::Global;
 use units::{List, Moment, Operation, OutOfMemory, Request, Text};
 
-fn last_of(session: Option<&Session>) -> u32
+pub fn last_of(session: Option<&Session>) -> u32
     ensures { result ≡ last_of (option_copied session.entry) }
 {
     match session {
@@ -25,7 +25,7 @@ fn last_of(session: Option<&Session>) -> u32
     }
 }
 
-fn same_row(account: &Text, barred: &List<u32>, row: Option<&Subscription>) -> bool
+pub fn same_row(account: &Text, barred: &List<u32>, row: Option<&Subscription>) -> bool
     ensures { result ≡ same_row account.now barred.now (option_copied row.entry) }
 {
     match row {

@@ -1,0 +1,69 @@
+-- The machine as its callers see it, what it decides, and when a plan may be committed (TS 32.290, 5.3.2; this
+-- product's own).
+use Rattle.std.specs.Prelude.{◌≡◌, ◌<◌, ◌≤◌, ◌-◌, ◌^◌, ◌⊎◌, ⊤, true, ℕ, List, length, reverse, slice_get, Option, Some}
+use Rattle.accounts.specs.Making.{AreMakeable}
+use Rattle.chf_core.specs.declared.command.Command.{Command}
+use Rattle.chf_core.specs.declared.command.Command.TheVariants.{Setup, Charge, Subscriber, TopUp, Expire}
+use Rattle.chf_core.specs.declared.planned.Change.{Change}
+use Rattle.chf_core.specs.declared.planned.Change.TheVariants as change
+use Rattle.chf_core.specs.declared.planned.Plan.{Plan}
+use Rattle.chf_core.specs.declared.planned.Decision.{Decision}
+use Rattle.chf_core.specs.declared.planned.Decision.TheVariants as decided
+use Rattle.chf_core.specs.declared.decision.Verdict.{Verdict}
+use Rattle.chf_core.specs.declared.decision.Verdict.TheVariants.{Kept, Known, Refused, Fresh}
+use Rattle.chf_core.specs.Machine.{session_by}
+use Rattle.chf_core.specs.Keys.{key}
+use Rattle.chf_core.specs.Decisions.{is_fresh}
+use Rattle.chf_core.specs.Named.{IsProvided}
+use Rattle.chf_core.specs.State.{State, account_for, key_of}
+use Rattle.chf_core.specs.CommandMoves.{moves_of}
+use Rattle.chf_core.specs.Deciding.{decision, outcome_of}
+
+-- the state; and what callers need not look at: the names of the consumers, and for how many more commands and moves of
+-- money there is room
+pub record Machine : Type 0 where
+  pub state : State
+  pub consumers : List (List ℕ)
+  pub places : ℕ
+  pub moves : ℕ
+
+-- the name of the account with a number, which counts from 0 in the order in which the accounts came to be
+abbrev pub account_name : State → ℕ → Option (List ℕ)
+account_name s number = slice_get (reverse s.names) number
+
+-- a change has what a command's commit writes besides what the command says
+abbrev pub Writes : Machine → Command → Change → Type 0
+Writes m (Setup setup) change.Setup = ⊤
+Writes m (Charge q) (change.Charge charging_id session consumer) =
+    (key_of m.state q ≡ Some (key q.consumer charging_id q.number))
+    × ((session ≡ session_by q.operation q (account_for m.state q.subscriber)) × IsProvided m.consumers q.consumer consumer)
+Writes m (Subscriber supi account barred) (change.Subscriber name) = IsProvided m.state.names account name
+Writes m (TopUp id account amount) change.TopUp = ⊤
+Writes m (Expire moment) change.Expire = ⊤
+Writes m other change = ⊥
+
+-- a plan has what comes of a command: its outcome, its moves, which can be made, and what its commit writes besides
+pub record IsWorkedOut (m : Machine) (c : Command) (p : Plan) : Type 0 where
+  pub command : p.command ≡ c
+  pub outcome : p.outcome ≡ outcome_of m.state c
+  pub moves : p.moves ≡ moves_of m.state c
+  pub makeable : AreMakeable p.moves m.state.money
+  pub change : Writes m c p.change
+
+-- a plan is ready where its command is fresh, all that comes of it is worked out, and there is room for it
+pub record IsReady (m : Machine) (p : Plan) : Type 0 where
+  pub fresh : decision m.state p.command ≡ Fresh p.outcome
+  pub worked_out : IsWorkedOut m p.command p
+  pub spare : length p.moves ≤ m.moves
+  pub places : 0 < m.places
+
+-- what is answered on a command
+abbrev pub Answers : Machine → Command → Decision → Type 0
+Answers m c (decided.Kept place) = decision m.state c ≡ Kept place
+Answers m c decided.Known = decision m.state c ≡ Known
+Answers m c (decided.Refused refusal) = decision m.state c ≡ Refused refusal
+Answers m c (decided.Fresh plan) = (plan.command ≡ c) × IsReady m plan
+
+-- where want of memory may be answered: on a fresh command, or where there is no further place
+abbrev pub MayWantMemory : State → Command → Type 0
+MayWantMemory s c = (2 ^ 32 - 1 ≤ s.count) ⊎ (is_fresh (decision s c) ≡ true)

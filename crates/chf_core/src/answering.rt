@@ -1,0 +1,145 @@
+//! What is answered on a command that is not fresh, by the order of checks.
+ghost use Rattle.std.specs.Prelude.{◌≡◌, option_copied};
+ghost use Rattle.accounts.specs.Endings.{count_ending, Until};
+ghost use Rattle.chf_core.specs.Keys.{key};
+ghost use Rattle.chf_core.specs.Decisions.{last_of, at_kept, same_row, decide_subscriber, decide_again, decide_topup, decide_expire};
+ghost use Rattle.chf_core.specs.State.{at_text, account_named, named_by, key_of, place_of};
+ghost use Rattle.chf_core.specs.Deciding.{decision, at_key, at_place, at_new, at_new_create, at_new_later};
+ghost use Rattle.chf_core.specs.ChfKept.{answer_by};
+
+use crate::command::Command;
+use crate::machine::Chf;
+use crate::planned::Decision;
+use crate::refusal::ChfRefusal;
+use crate::session::Session;
+use crate::subscription::Sum;
+use crate::verdict::{last_of, same_row};
+use units::{Moment, Operation, Request, Text};
+
+fn answer_subscriber(is_same: bool) -> Option<Decision>
+    ensures { result ≡ answer_by (decide_subscriber is_same) }
+{
+    if is_same { Some(Decision::Known) } else { None }
+}
+
+fn answer_again(account: &Text, amount: u128, sum: Option<&Sum>) -> Option<Decision>
+    ensures { result ≡ answer_by (decide_again account.now amount (option_copied sum.entry)) }
+{
+    match sum {
+        Some(s) => if s.account == *account && s.amount == amount {
+            Some(Decision::Known)
+        } else {
+            Some(Decision::Refused(ChfRefusal::TopUpDiffers))
+        },
+        None => None,
+    }
+}
+
+fn answer_kept(place: u32, last: u32, is_repeat: bool) -> Decision
+    ensures { Some result ≡ answer_by (at_kept place last is_repeat) }
+{
+    if is_repeat {
+        Decision::Kept(place)
+    } else {
+        Decision::Refused(ChfRefusal::SequencePassed { last })
+    }
+}
+
+impl Chf {
+    fn answer_topup(&self, id: &Text, account: &Text, amount: u128) -> Option<Decision>
+        ensures { result ≡ answer_by (decide_topup account.now amount (account_named self.now.state account.now) (at_text self.now.state.topups id.now)) }
+    {
+        match self.account_named(account) {
+            Some(_) => answer_again(account, amount, self.topups.get(id.as_str())),
+            None => Some(Decision::Refused(ChfRefusal::UnknownAccount)),
+        }
+    }
+
+    fn answer_expire(&self, moment: Moment) -> Option<Decision>
+        ensures { result ≡ answer_by (decide_expire (count_ending self.now.state.money.reservations (Until moment))) }
+    {
+        if self.accounts.is_due(moment) {
+            None
+        } else {
+            Some(Decision::Known)
+        }
+    }
+
+    fn answer_new_later(&self, request: &Request, session: Option<&Session>) -> Option<Decision>
+        ensures { result ≡ answer_by (at_new_later self.now.state request.now (option_copied session.entry)) }
+    {
+        match session {
+            Some(s) => if request.number <= s.last {
+                Some(Decision::Refused(ChfRefusal::SequencePassed { last: s.last }))
+            } else if s.is_open {
+                None
+            } else {
+                Some(Decision::Refused(ChfRefusal::SessionClosed { last: s.last }))
+            },
+            None => Some(Decision::Refused(ChfRefusal::UnknownReference)),
+        }
+    }
+
+    fn answer_new_create(&self, request: &Request, session: Option<&Session>) -> Option<Decision>
+        ensures { result ≡ answer_by (at_new_create self.now.state request.now (option_copied session.entry)) }
+    {
+        match session {
+            Some(_) => Some(Decision::Refused(ChfRefusal::SessionExists)),
+            None => None,
+        }
+    }
+
+    fn answer_new(&self, request: &Request, session: Option<&Session>) -> Option<Decision>
+        ensures { result ≡ answer_by (at_new request.now.operation self.now.state request.now (option_copied session.entry)) }
+    {
+        match request.operation {
+            Operation::Create => self.answer_new_create(request, session),
+            Operation::Update(_) => self.answer_new_later(request, session),
+            Operation::Release(_) => self.answer_new_later(request, session),
+        }
+    }
+
+    fn answer_place(&self, request: &Request, place: Option<u32>) -> Option<Decision>
+        ensures { result ≡ answer_by (at_place self.now.state request.now (named_by request.now.operation self.now.state request.now) place) }
+    {
+        let session = self.named(request);
+        match place {
+            Some(place) => Some(answer_kept(
+                place,
+                last_of(session),
+                self.is_repeat_at(request, place),
+            )),
+            None => self.answer_new(request, session),
+        }
+    }
+
+    fn answer_charge(&self, request: &Request) -> Option<Decision>
+        ensures { result ≡ answer_by (at_key self.now.state request.now (key_of self.now.state request.now)) }
+    {
+        match self.key_id(request) {
+            Some(id) => self.answer_place(request, self.place_of(request, id)),
+            None => Some(Decision::Refused(ChfRefusal::UnknownReference)),
+        }
+    }
+
+    /// What is answered on a command, `None` where it is fresh.
+    pub(crate) fn answer(&self, command: &Command) -> Option<Decision>
+        ensures { result ≡ answer_by (decision self.now.state command.now) }
+    {
+        match command {
+            Command::Setup { .. } => None,
+            Command::Charge { request } => self.answer_charge(request),
+            Command::Subscriber {
+                supi,
+                account,
+                barred,
+            } => answer_subscriber(same_row(account, barred, self.subscribers.get(supi.as_str()))),
+            Command::TopUp {
+                id,
+                account,
+                amount,
+            } => self.answer_topup(id, account, *amount),
+            Command::Expire { moment } => self.answer_expire(*moment),
+        }
+    }
+}

@@ -1,0 +1,47 @@
+//! Decisions, and the plans of fresh commands.
+use crate::command::{Command, Outcome};
+use crate::names::NewName;
+use crate::refusal::ChfRefusal;
+use crate::session::Session;
+use accounts::Moves;
+
+/// What a command's commit writes besides what the command says.
+#[derive(Debug, Drop)]
+pub(crate) enum Change {
+    Setup,
+    /// The charging id in the request's key, the session that it opens, and the name of its consumer where that is new.
+    Charge {
+        charging_id: u32,
+        session: Option<Session>,
+        consumer: Option<NewName>,
+    },
+    /// The name of the account, where that is new.
+    Subscriber {
+        name: Option<NewName>,
+    },
+    TopUp,
+    Expire,
+}
+
+/// A command that is fresh, what it comes to, and the moves of money that it makes. It is to be committed before
+/// anything else is decided (this product's own).
+#[derive(Debug, Drop)]
+pub struct Plan {
+    pub(crate) command: Command,
+    pub(crate) outcome: Outcome,
+    pub(crate) moves: Moves,
+    pub(crate) change: Change,
+}
+
+/// What is decided on a command (this product's own).
+#[derive(Debug, Drop)]
+pub enum Decision {
+    /// An earlier charging data request has the key and content: its place, from 0.
+    Kept(u32),
+    /// An operator's command changes nothing.
+    Known,
+    /// It is refused, and nothing is kept of it.
+    Refused(ChfRefusal),
+    /// It is fresh.
+    Fresh(Plan),
+}

@@ -1,0 +1,286 @@
+//! The plan of a fresh command, which makes all the memory that its commit needs.
+ghost use Rattle.std.specs.Prelude.{◌≡◌, ◌<◌, ◌≤◌, ◌-◌, ◌^◌, IfOk, OnOk, IsSome, Some, true};
+ghost use Rattle.accounts.specs.Making.{AreMakeable};
+ghost use Rattle.chf_core.specs.declared.command.Command.TheVariants.{Setup, Charge, Subscriber, TopUp, Expire};
+ghost use Rattle.chf_core.specs.Keys.{key};
+ghost use Rattle.chf_core.specs.Decisions.{is_fresh};
+ghost use Rattle.chf_core.specs.State.{account_for, key_of};
+ghost use Rattle.chf_core.specs.CommandMoves.{target_of, rating_of, moves_of, infos_for};
+ghost use Rattle.chf_core.specs.Deciding.{decision, answer_of, first_reply, created, outcome_of};
+ghost use Rattle.chf_core.specs.Chf.{Machine, IsReady, IsWorkedOut, Writes};
+
+use crate::command::{Command, Outcome};
+use crate::draft::{Effect, effect_of};
+use crate::machine::Chf;
+use crate::operator_moves::{adding, expiring, topping};
+use crate::plan::{name_for, session_opened};
+use crate::planned::{Change, Plan};
+use crate::reply::user_unknown;
+use crate::setup::ChfSetup;
+use accounts::Moves;
+use std::alloc::Global;
+use units::{Answer, List, Moment, Operation, OutOfMemory, Reply, Request, Text, UnitInfo, copy};
+
+// The plan of a setup.
+fn plan_setup(alloc: Global, setup: &ChfSetup) -> Result<Plan, OutOfMemory>
+    ensures { IfOk result (λ p. (m : Machine) → IsWorkedOut m (Setup setup.now) p) }
+{
+    Ok(Plan {
+        command: Command::Setup {
+            setup: copy(setup)?,
+        },
+        outcome: Outcome::Done,
+        moves: Moves::new(alloc),
+        change: Change::Setup,
+    })
+}
+
+impl Chf {
+    // ---- of a charging data request
+
+    // What a request makes of the accounts, and what is said of its groups.
+    fn effect(&self, alloc: Global, request: &Request) -> Result<Effect, OutOfMemory>
+        requires { self.now.state.count < 2 ^ 32 - 1 }
+        ensures moves { IfOk result (λ e. e.moves ≡ moves_of self.now.state (Charge request.now)) }
+        ensures infos { IfOk result (λ e. e.infos ≡ infos_for (rating_of self.now.state request.now) request.now self.now.state.money (target_of self.now.state request.now)) }
+        ensures makeable { IfOk result (λ e. AreMakeable e.moves self.now.state.money) }
+    {
+        match self.target_of(request) {
+            Some(t) => effect_of(
+                alloc,
+                &self.accounts,
+                self.rates(),
+                self.grace(),
+                self.barred(request),
+                t,
+                request,
+            ),
+            None => Ok(Effect {
+                moves: Moves::new(alloc),
+                infos: List::new(alloc),
+            }),
+        }
+    }
+
+    fn answer_of(&self, alloc: Global, request: &Request, units: List<UnitInfo>) -> Answer
+        requires { units ≡ infos_for (rating_of self.now.state request.now) request.now self.now.state.money (target_of self.now.state request.now) }
+        ensures { result ≡ answer_of self.now.state request.now }
+    {
+        Answer {
+            number: request.number,
+            stamp: request.stamp,
+            failover: self.failover(),
+            handling: None,
+            triggers: List::new(alloc),
+            units,
+        }
+    }
+
+    fn created(
+        &self,
+        alloc: Global,
+        request: &Request,
+        answer: Answer,
+    ) -> Result<Reply, OutOfMemory>
+        requires few { self.now.state.count < 2 ^ 32 - 1 }
+        requires answer { answer ≡ answer_of self.now.state request.now }
+        ensures { IfOk result (λ r. r ≡ created self.now.state request.now (account_for self.now.state request.now.subscriber)) }
+    {
+        match self.account_for(&request.subscriber) {
+            Some(_) => Ok(Reply::Created {
+                reference: self.next_reference(),
+                answer,
+            }),
+            None => user_unknown(alloc),
+        }
+    }
+
+    // The first reply to a request, with what is said of its groups.
+    fn first_reply(
+        &self,
+        alloc: Global,
+        request: &Request,
+        units: List<UnitInfo>,
+    ) -> Result<Reply, OutOfMemory>
+        requires few { self.now.state.count < 2 ^ 32 - 1 }
+        requires units { units ≡ infos_for (rating_of self.now.state request.now) request.now self.now.state.money (target_of self.now.state request.now) }
+        ensures { IfOk result (λ r. r ≡ first_reply self.now.state request.now) }
+    {
+        let answer = self.answer_of(alloc, request, units);
+        match request.operation {
+            Operation::Create => self.created(alloc, request, answer),
+            Operation::Update(_) => Ok(Reply::Updated { answer }),
+            Operation::Release(_) => Ok(Reply::Released),
+        }
+    }
+
+    // What the commit of a request writes besides it.
+    fn change_of(
+        &self,
+        alloc: Global,
+        request: &Request,
+        charging_id: u32,
+    ) -> Result<Change, OutOfMemory>
+        requires { key_of self.now.state request.now ≡ Some (key request.now.consumer charging_id request.now.number) }
+        ensures { IfOk result (Writes self.now (Charge request.now)) }
+    {
+        Ok(Change::Charge {
+            charging_id,
+            session: session_opened(alloc, request, self.account_for(&request.subscriber))?,
+            consumer: name_for(alloc, &self.keyed.consumers, &request.consumer)?,
+        })
+    }
+
+    // The plan of a request that has a key.
+    fn plan_keyed(
+        &self,
+        alloc: Global,
+        request: &Request,
+        charging_id: u32,
+    ) -> Result<Plan, OutOfMemory>
+        requires few { self.now.state.count < 2 ^ 32 - 1 }
+        requires key { key_of self.now.state request.now ≡ Some (key request.now.consumer charging_id request.now.number) }
+        ensures { IfOk result (IsWorkedOut self.now (Charge request.now)) }
+    {
+        let Effect { moves, infos } = self.effect(alloc, request)?;
+        let reply = self.first_reply(alloc, request, infos)?;
+        let change = self.change_of(alloc, request, charging_id)?;
+        Ok(Plan {
+            command: Command::Charge {
+                request: copy(request)?,
+            },
+            outcome: Outcome::Charged(reply),
+            moves,
+            change,
+        })
+    }
+
+    fn plan_charge(&self, alloc: Global, request: &Request) -> Result<Plan, OutOfMemory>
+        requires few { self.now.state.count < 2 ^ 32 - 1 }
+        requires key { IsSome (key_of self.now.state request.now) }
+        ensures { IfOk result (IsWorkedOut self.now (Charge request.now)) }
+    {
+        match self.key_id(request) {
+            Some(charging_id) => self.plan_keyed(alloc, request, charging_id),
+            None => unreachable!(),
+        }
+    }
+
+    // ---- of an operator's command
+
+    fn plan_subscriber(
+        &self,
+        alloc: Global,
+        supi: &Text,
+        account: &Text,
+        barred: &List<u32>,
+    ) -> Result<Plan, OutOfMemory>
+        ensures { IfOk result (IsWorkedOut self.now (Subscriber supi.now account.now barred.now)) }
+    {
+        let moves = adding(alloc, &self.accounts, self.account_named(account))?;
+        Ok(Plan {
+            command: Command::Subscriber {
+                supi: copy(supi)?,
+                account: copy(account)?,
+                barred: copy(barred)?,
+            },
+            outcome: Outcome::Done,
+            moves,
+            change: Change::Subscriber {
+                name: name_for(alloc, &self.names, account)?,
+            },
+        })
+    }
+
+    fn plan_topup(
+        &self,
+        alloc: Global,
+        id: &Text,
+        account: &Text,
+        amount: u128,
+    ) -> Result<Plan, OutOfMemory>
+        ensures { IfOk result (IsWorkedOut self.now (TopUp id.now account.now amount)) }
+    {
+        let moves = topping(alloc, &self.accounts, amount, self.account_named(account))?;
+        Ok(Plan {
+            command: Command::TopUp {
+                id: copy(id)?,
+                account: copy(account)?,
+                amount,
+            },
+            outcome: Outcome::Done,
+            moves,
+            change: Change::TopUp,
+        })
+    }
+
+    fn plan_expire(&self, alloc: Global, moment: Moment) -> Result<Plan, OutOfMemory>
+        ensures { IfOk result (IsWorkedOut self.now (Expire moment)) }
+    {
+        Ok(Plan {
+            command: Command::Expire { moment },
+            outcome: Outcome::Done,
+            moves: expiring(alloc, &self.accounts, moment)?,
+            change: Change::Expire,
+        })
+    }
+
+    // ---- of each
+
+    // All that comes of a command, worked out.
+    fn work_out(&self, alloc: Global, command: &Command) -> Result<Plan, OutOfMemory>
+        requires few { self.now.state.count < 2 ^ 32 - 1 }
+        requires fresh { is_fresh (decision self.now.state command.now) ≡ true }
+        ensures { IfOk result (IsWorkedOut self.now command.now) }
+    {
+        match command {
+            Command::Setup { setup } => plan_setup(alloc, setup),
+            Command::Charge { request } => self.plan_charge(alloc, request),
+            Command::Subscriber {
+                supi,
+                account,
+                barred,
+            } => self.plan_subscriber(alloc, supi, account, barred),
+            Command::TopUp {
+                id,
+                account,
+                amount,
+            } => self.plan_topup(alloc, id, account, *amount),
+            Command::Expire { moment } => self.plan_expire(alloc, *moment),
+        }
+    }
+
+    // Room for one more command, and for that many moves of money.
+    fn make_room(&mut self, alloc: Global, moves: usize) -> Result<(), OutOfMemory>
+        requires { self.old.state.count < 2 ^ 32 - 1 }
+        ensures same { self.new.state ≡ self.old.state }
+        ensures consumers { self.new.consumers ≡ self.old.consumers }
+        ensures places { OnOk result (0 < self.new.places) }
+        ensures moves { OnOk result (moves ≤ self.new.moves) }
+    {
+        let requests = self.requests.reserve(1).is_ok();
+        let sessions = self.sessions.reserve(1).is_ok();
+        let names = self.names.make_room().is_ok();
+        let subscribers = self.subscribers.make_room().is_ok();
+        let topups = self.topups.make_room().is_ok();
+        let keyed = self.keyed.make_room().is_ok();
+        let accounts = self.accounts.make_room(alloc, moves).is_ok();
+        if requests && sessions && names && subscribers && topups && keyed && accounts {
+            Ok(())
+        } else {
+            Err(OutOfMemory)
+        }
+    }
+
+    /// The plan of a command that is fresh.
+    pub(crate) fn plan(&mut self, alloc: Global, command: &Command) -> Result<Plan, OutOfMemory>
+        requires few { self.old.state.count < 2 ^ 32 - 1 }
+        requires fresh { is_fresh (decision self.old.state command.now) ≡ true }
+        ensures same { self.new.state ≡ self.old.state }
+        ensures ready { IfOk result (λ p. (p.command ≡ command.now) × IsReady self.new p) }
+    {
+        let plan = self.work_out(alloc, command)?;
+        self.make_room(alloc, plan.moves.len())?;
+        Ok(plan)
+    }
+}

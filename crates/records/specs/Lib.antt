@@ -1,0 +1,4 @@
+pub mod Usage
+pub mod Groups
+pub mod Sums
+pub mod Closing

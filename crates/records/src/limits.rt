@@ -1,0 +1,18 @@
+//! When records are closed before their session ends.
+use units::Text;
+
+/// When a record is closed before its session ends, and the function that writes it (TS 32.255, 5.2.3). A limit of 0 is
+/// off.
+#[derive(Clone, PartialEq, Eq, Debug, Drop)]
+pub struct RecordLimits {
+    /// The octets of its containers.
+    pub volume: u64,
+    /// The seconds since its opening.
+    pub seconds: u32,
+    /// Its containers with a change of charging conditions.
+    pub changes: u32,
+    /// Its containers.
+    pub containers: u32,
+    /// The recording network function.
+    pub function: Text,
+}
