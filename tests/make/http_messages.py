@@ -210,3 +210,8 @@ def requests(words):
 
 def responses(words):
     return messages(words, False, answered)
+
+
+def cuts(kind, words):
+    """What is read wherever the stream is cut in two: the same as without a cut. There are as many cuts as bytes."""
+    return f"{len(spread(words))} cuts: {dict(request=requests, response=responses)[kind](words)}"

@@ -14,7 +14,9 @@ import reports
 import times
 
 FOLDER = Path(__file__).resolve().parents[2] / "crates" / "acceptance"
-TABLES = "time stamp request reply element length once meter quota events many-events devices door link clock loopback journal file-disk http-request http-response".split()
+TABLES = (
+    "time stamp request reply element length once meter quota events many-events devices door link clock loopback"
+    " journal file-disk http-request http-response http-cuts").split()
 OPERATIONS = dict(C="create", U="update", R="release")
 
 
@@ -45,8 +47,9 @@ def reply(status, location, body):
 
 
 MODELS = {
-    "time": time, "stamp": stamp, "request": request, "reply": reply, "element": elements.element, "length": elements.length,
-    "meter": reports.meter, "http-request": http_messages.requests, "http-response": http_messages.responses}
+    "time": time, "stamp": stamp, "request": request, "reply": reply, "element": elements.element,
+    "length": elements.length, "meter": reports.meter, "http-request": http_messages.requests,
+    "http-response": http_messages.responses, "http-cuts": http_messages.cuts}
 
 
 def main():

@@ -1,6 +1,6 @@
 //! HTTP/1.1 messages: what is read of a stream of bytes, to its end or its first refusal, and what is written.
 use crate::values::{octets, small};
-use edge::MemSource;
+use edge::{MemSource, Source};
 use std::alloc::Global;
 use units::OutOfMemory;
 use wire::{Conn, HttpRequest, HttpResponse, WireRefusal};
@@ -8,8 +8,8 @@ use wire::{Conn, HttpRequest, HttpResponse, WireRefusal};
 /// The most messages of a stream.
 const MOST_MESSAGES: u32 = 1000;
 
-// Bytes written as hexadecimal words with blanks between them, each of which may be repeated.
-fn spread(alloc: Global, words: &str) -> Result<Vec<u8>, OutOfMemory> {
+/// Bytes written as hexadecimal words with blanks between them, each of which may be repeated.
+pub fn spread(alloc: Global, words: &str) -> Result<Vec<u8>, OutOfMemory> {
     let mut bytes = Vec::new(alloc);
     for word in words.split_whitespace() {
         let (digits, times) = word.split_once('*').unwrap_or((word, "1"));
@@ -54,13 +54,12 @@ pub fn answered(alloc: Global, response: &HttpResponse) -> Result<String, OutOfM
     Ok(format!(in alloc; "{status} {location} {count}; ")?)
 }
 
-/// The requests of a stream.
-pub fn requests(alloc: Global, words: &str) -> Result<String, OutOfMemory> {
-    let mut source = MemSource::new(alloc, spread(alloc, words)?.as_slice(), &[])?;
+/// The requests of a source.
+pub fn all_requests<S: Source>(alloc: Global, source: &mut S) -> Result<String, OutOfMemory> {
     let mut conn = Conn::new(alloc)?;
     let mut told = String::new(alloc);
     for _ in 0..MOST_MESSAGES {
-        match conn.read_request(alloc, &mut source) {
+        match conn.read_request(alloc, source) {
             Ok(Some(request)) => told.push_str(asked(alloc, &request)?.as_str())?,
             Ok(None) => {
                 told.push_str("end")?;
@@ -75,13 +74,12 @@ pub fn requests(alloc: Global, words: &str) -> Result<String, OutOfMemory> {
     Ok(told)
 }
 
-/// The responses of a stream.
-pub fn responses(alloc: Global, words: &str) -> Result<String, OutOfMemory> {
-    let mut source = MemSource::new(alloc, spread(alloc, words)?.as_slice(), &[])?;
+/// The responses of a source.
+pub fn all_responses<S: Source>(alloc: Global, source: &mut S) -> Result<String, OutOfMemory> {
     let mut conn = Conn::new(alloc)?;
     let mut told = String::new(alloc);
     for _ in 0..MOST_MESSAGES {
-        match conn.read_response(alloc, &mut source) {
+        match conn.read_response(alloc, source) {
             Ok(response) => told.push_str(answered(alloc, &response)?.as_str())?,
             Err(why) => {
                 told.push_str(refusal(alloc, why)?.as_str())?;
@@ -90,4 +88,16 @@ pub fn responses(alloc: Global, words: &str) -> Result<String, OutOfMemory> {
         }
     }
     Ok(told)
+}
+
+/// The requests of a stream.
+pub fn requests(alloc: Global, words: &str) -> Result<String, OutOfMemory> {
+    let mut source = MemSource::new(alloc, spread(alloc, words)?.as_slice(), &[])?;
+    all_requests(alloc, &mut source)
+}
+
+/// The responses of a stream.
+pub fn responses(alloc: Global, words: &str) -> Result<String, OutOfMemory> {
+    let mut source = MemSource::new(alloc, spread(alloc, words)?.as_slice(), &[])?;
+    all_responses(alloc, &mut source)
 }

@@ -4,6 +4,7 @@
 #![tactic(auto)]
 
 mod connections;
+mod cuts;
 mod devices;
 mod disks;
 mod elements;
@@ -25,7 +26,7 @@ use units::OutOfMemory;
 const INPUT_LIMIT: usize = 1 << 24;
 
 /// The tables, by the words that begin their lines.
-const TABLES: [&str; 20] = [
+const TABLES: [&str; 21] = [
     "time",
     "stamp",
     "request",
@@ -46,6 +47,7 @@ const TABLES: [&str; 20] = [
     "file-disk",
     "http-request",
     "http-response",
+    "http-cuts",
 ];
 
 // What is answered on a case.
@@ -78,6 +80,7 @@ fn answer(rt: &HostRuntime, table: &str, fields: &[&str]) -> Result<String, OutO
         ("file-disk", [name]) => disks::file_disk(rt, alloc, name),
         ("http-request", [octets]) => http::requests(alloc, octets),
         ("http-response", [octets]) => http::responses(alloc, octets),
+        ("http-cuts", [kind, octets]) => cuts::cuts(alloc, kind, octets),
         _ => Ok(String::from_str(alloc, "no such table")?),
     }
 }

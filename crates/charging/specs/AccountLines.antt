@@ -7,9 +7,7 @@ use Rattle.std.specs.Cmp.Lexicographic.{slice_cmp}
 use Rattle.std.specs.BTreeMap.{insert_entry}
 use Rattle.accounts.specs.Ledger.{State, balance, numbers, reserved}
 use Rattle.accounts.specs.Answers.{where_known}
-use Rattle.chf_core.specs.declared.command.Command.{Command}
-use Rattle.chf_core.specs.Money.{money}
-use Rattle.chf_core.specs.Operator.{account_names}
+use Rattle.chf_core.specs.State as chf
 
 -- names, the first of which has this number, among others: each in its place in byte order, with its number
 abbrev pub in_order : List (List ℕ × ℕ) → ℕ → List (List ℕ) → List (List ℕ × ℕ)
@@ -17,8 +15,8 @@ in_order entries number [] = entries
 in_order entries number (name ∷ names) = in_order (insert_entry (slice_cmp nat_cmp) entries name number) (number + 1) names
 
 -- the accounts by name, each with its number
-abbrev pub accounts_by_name : List Command → List (List ℕ × ℕ)
-accounts_by_name commands = in_order [] 0 (reverse (account_names commands))
+abbrev pub accounts_by_name : chf.State → List (List ℕ × ℕ)
+accounts_by_name s = in_order [] 0 (reverse s.names)
 
 -- `account,NAME,`
 abbrev pub name_text : List ℕ → List ℕ
@@ -47,5 +45,5 @@ abbrev pub account_line : State → List ℕ × ℕ → List ℕ
 account_line state account = name_text account.0 ++ (balance_text state account.1 ++ owed_text state account.1)
 
 -- all account lines
-abbrev pub account_lines : List Command → List ℕ
-account_lines commands = flat_map (account_line (money commands)) (accounts_by_name commands)
+abbrev pub account_lines : chf.State → List ℕ
+account_lines s = flat_map (account_line s.money) (accounts_by_name s)

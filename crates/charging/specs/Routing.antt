@@ -2,7 +2,6 @@
 use Rattle.std.specs.Prelude.{ℕ, ◌-◌, ◌^◌, ◌==◌, nat_lt, bytes_eq, List, [], ◌∷◌, length, take, drop, Option, Some, None, Result, Ok, Err, if◌then◌else◌, codes}
 use Rattle.rows.specs.Number.{number_of}
 use Rattle.units.specs.Words.{name_of_cause}
-use Rattle.units.specs.declared.words.Cause.{Cause}
 use Rattle.units.specs.declared.words.Cause.TheVariants.{NotFound}
 use Rattle.units.specs.declared.refusal.JsonRefusal.{JsonRefusal}
 use Rattle.units.specs.declared.refusal.JsonRefusal.TheVariants.{NotJson, Missing, Wrong, OutOfMemory}
@@ -11,6 +10,7 @@ use Rattle.units.specs.declared.reply.Reply.TheVariants as reply
 use Rattle.units.specs.declared.request.Operation.{Operation}
 use Rattle.units.specs.declared.request.Operation.TheVariants.{Create, Update, Release}
 use Rattle.units.specs.declared.request.Request.{Request}
+use Rattle.chf_core.specs.Standing.{problem}
 use Rattle.charging_json.specs.Cause.{cause_of}
 use Rattle.charging_json.specs.Request.{request_in}
 use Rattle.rows.specs.Pieces.{piece_length}
@@ -21,13 +21,9 @@ use Rattle.charging.specs.Items.{begins_with}
 
 -- ---- problems
 
--- problem details as a reply (TS 29.571, 5.2.4.1)
-abbrev pub problem : ℕ → Cause → Option (List ℕ) → Reply
-problem status cause detail = reply.Refused (record { status = status; cause = name_of_cause cause; detail = detail })
-
 -- no path of the table, and another method than its own
 abbrev pub not_found : ℕ → Reply
-not_found status = problem status NotFound None
+not_found status = problem status NotFound
 
 -- the field that a refused body is refused for
 abbrev pub field_of : JsonRefusal → Option (List ℕ)
@@ -38,7 +34,11 @@ field_of OutOfMemory = None
 
 -- the problem of a body that is refused, with its field
 abbrev pub body_problem : Operation → JsonRefusal → Reply
-body_problem operation refusal = problem 400 (cause_of operation refusal) (field_of refusal)
+body_problem operation refusal = reply.Refused (record {
+  status = 400;
+  cause = name_of_cause (cause_of operation refusal);
+  detail = field_of refusal;
+})
 
 -- ---- paths
 

@@ -4,6 +4,8 @@ use Rattle.units.specs.Cut.{AreWidestCuts, whole_hour}
 use Rattle.meter.specs.Contents.{AreNumbered, Contents}
 use Rattle.chf_core.specs.declared.command.Command.TheVariants.{Setup}
 use Rattle.chf_core.specs.declared.setup.ChfSetup.{ChfSetup}
+use Rattle.chf_core.specs.State.{nothing_yet}
+use Rattle.chf_core.specs.After.{after}
 use Rattle.charging.specs.declared.words.Prices.{Prices}
 use Rattle.charging.specs.declared.words.Task.{Task}
 use Rattle.charging.specs.declared.words.Task.TheVariants.{Meter, Operator, Answer}
@@ -32,7 +34,7 @@ pub record IsTable (prices : Prices) (bytes text : List ℕ) : Type 0 where
 pub record IsPrinted (items : List Item) (text : List ℕ) : Type 0 where
   pub setup : ChfSetup
   pub accepted : outcome items ≡ Ok setup
-  pub text_is : text ≡ printed (Setup setup ∷ []) items
+  pub text_is : text ≡ printed (after nothing_yet (Setup setup)) items
 
 -- the items of an input that is not too long come to this: they are all accepted, with this setup, or this is the number of the first that is not
 pub record ComesTo (bytes : List ℕ) (items : List Item) (result : Result ChfSetup ℕ) : Type 0 where

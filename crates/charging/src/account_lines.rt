@@ -56,7 +56,7 @@ fn push_account(
 
 // The accounts by name, each with its number.
 fn accounts_by_name(alloc: Global, chf: &Chf) -> Result<BTreeMap<Name, u32>, OutOfMemory>
-    ensures { IfOk result (λ map. map.entries ≡ accounts_by_name chf.now.list) }
+    ensures { IfOk result (λ map. map.entries ≡ accounts_by_name chf.now.state) }
 {
     let mut entries = BTreeMap::new(alloc);
     for account in 0..chf.account_total() {
@@ -70,7 +70,7 @@ fn accounts_by_name(alloc: Global, chf: &Chf) -> Result<BTreeMap<Name, u32>, Out
 
 /// Writes the account lines.
 pub fn push_accounts(alloc: Global, chf: &Chf, out: &mut Vec<u8>) -> Result<(), OutOfMemory>
-    ensures { OnOk result (out.new.items ≡ out.old.items ++ account_lines chf.now.list) }
+    ensures { OnOk result (out.new.items ≡ out.old.items ++ account_lines chf.now.state) }
 {
     let entries = accounts_by_name(alloc, chf)?;
     for (name, account) in &entries {

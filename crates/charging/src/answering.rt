@@ -1,20 +1,24 @@
 //! What the charging function answers on each item of an input.
-ghost use Rattle.std.specs.Prelude.{◌≡◌, ◌++◌, ◌∷◌, [], Ok, Some, None, IfOk, OnOk, codes, option_copied, option_map};
+ghost use Rattle.std.specs.Prelude.{◌≡◌, ◌++◌, ◌==◌, false, Ok, Some, None, IfOk, OnOk, codes, option_copied};
+ghost use Rattle.std.specs.Option.{option_and_then};
 ghost use Rattle.std.specs.Fmt.{decimal};
-ghost use Rattle.chf_core.specs.Decisions.{decision};
+ghost use Rattle.chf_core.specs.State.{nothing_yet};
+ghost use Rattle.chf_core.specs.Deciding.{decision};
+ghost use Rattle.chf_core.specs.After.{after, is_setup};
+ghost use Rattle.chf_core.specs.Standing.{refusal_reply, reply_of, verdict_reply};
 ghost use Rattle.chf_core.specs.declared.command.Command.TheVariants.{Setup};
-ghost use Rattle.charging.specs.Answering.{after_command, after_item, after_message, command_line, kept, line_of, message_line, message_reply, part, part_of, printed, refusal_number, refusal_reply, reply_in, reply_line, verdict_line, verdict_reply};
-ghost use Rattle.charging.specs.Routing.{problem, request_at};
+ghost use Rattle.charging.specs.Answering.{after_command, after_item, after_message, command_line, decided, line_of, message_line, message_reply, printed, refusal_number, verdict_line};
+ghost use Rattle.charging.specs.Routing.{request_at};
 ghost use Rattle.chf_rows.specs.OperatorRow.{command_of};
 
 use crate::account_lines::push_accounts;
 use crate::item::{Item, Method};
 use crate::responses::{push_number, push_reply};
-use crate::routing::{problem, request_at};
-use chf_core::{Chf, ChfRefusal, ChfSetup, Command, Decision, Outcome};
+use crate::routing::request_at;
+use chf_core::{Chf, ChfRefusal, ChfSetup, Command, Decision, Outcome, refusal_reply};
 use chf_rows::read_operator_row;
-use std::alloc::{AllocError, Global};
-use units::{Cause, OutOfMemory, Reply, Text};
+use std::alloc::Global;
+use units::{OutOfMemory, Text};
 
 /// The number of a refusal.
 fn refusal_number(refusal: ChfRefusal) -> u16
@@ -46,8 +50,10 @@ fn push_command(
     command: &Command,
     out: &mut Vec<u8>,
 ) -> Result<(), OutOfMemory>
-    ensures line { OnOk result (out.new.items ≡ out.old.items ++ verdict_line (decision chf.old.list command.now)) }
-    ensures list { OnOk result (chf.new.list ≡ kept chf.old.list command.now (decision chf.old.list command.now)) }
+    requires begun { (chf.old.state.count == 0) ≡ false }
+    requires later { is_setup command.now ≡ false }
+    ensures line { OnOk result (out.new.items ≡ out.old.items ++ verdict_line (decision chf.old.state command.now)) }
+    ensures state { OnOk result (chf.new.state ≡ decided chf.old.state command.now (decision chf.old.state command.now)) }
 {
     match chf.decide(alloc, command)? {
         Decision::Kept(_) => out.extend_from_slice(b"known\n")?,
@@ -59,20 +65,6 @@ fn push_command(
         }
     }
     Ok(())
-}
-
-// The problem that refuses a request.
-fn refusal_reply(alloc: Global, refusal: ChfRefusal) -> Result<Option<Reply>, AllocError>
-    ensures { IfOk result (λ r. r ≡ refusal_reply refusal) }
-{
-    match refusal {
-        ChfRefusal::UnknownAccount => Ok(None),
-        ChfRefusal::SessionExists => Ok(Some(problem(alloc, 403, Cause::SessionExists)?)),
-        ChfRefusal::SessionClosed { .. } => Ok(Some(problem(alloc, 403, Cause::SessionClosed)?)),
-        ChfRefusal::SequencePassed { .. } => Ok(Some(problem(alloc, 400, Cause::SequencePassed)?)),
-        ChfRefusal::UnknownReference => Ok(Some(problem(alloc, 404, Cause::UnknownReference)?)),
-        ChfRefusal::TopUpDiffers => Ok(None),
-    }
 }
 
 fn push_refusal(alloc: Global, refusal: ChfRefusal, out: &mut Vec<u8>) -> Result<(), OutOfMemory>
@@ -90,7 +82,7 @@ fn push_outcome(
     outcome: Option<&Outcome>,
     out: &mut Vec<u8>,
 ) -> Result<(), OutOfMemory>
-    ensures { OnOk result (out.new.items ≡ out.old.items ++ message_line (reply_in (option_copied outcome.entry))) }
+    ensures { OnOk result (out.new.items ≡ out.old.items ++ message_line (option_and_then reply_of (option_copied outcome.entry))) }
 {
     match outcome {
         Some(Outcome::Charged(reply)) => push_reply(alloc, reply, out),
@@ -107,8 +99,10 @@ fn push_charge(
     command: &Command,
     out: &mut Vec<u8>,
 ) -> Result<(), OutOfMemory>
-    ensures line { OnOk result (out.new.items ≡ out.old.items ++ message_line (verdict_reply chf.old.list (decision chf.old.list command.now))) }
-    ensures list { OnOk result (chf.new.list ≡ kept chf.old.list command.now (decision chf.old.list command.now)) }
+    requires begun { (chf.old.state.count == 0) ≡ false }
+    requires later { is_setup command.now ≡ false }
+    ensures line { OnOk result (out.new.items ≡ out.old.items ++ message_line (verdict_reply chf.old.state (decision chf.old.state command.now))) }
+    ensures state { OnOk result (chf.new.state ≡ decided chf.old.state command.now (decision chf.old.state command.now)) }
 {
     match chf.decide(alloc, command)? {
         Decision::Kept(place) => push_outcome(alloc, chf.outcome_at(place), out)?,
@@ -130,8 +124,9 @@ fn push_message(
     body: &[u8],
     out: &mut Vec<u8>,
 ) -> Result<(), OutOfMemory>
-    ensures line { OnOk result (out.new.items ≡ out.old.items ++ message_line (message_reply chf.old.list (request_at method path.now body.now))) }
-    ensures list { OnOk result (chf.new.list ≡ after_message chf.old.list (request_at method path.now body.now)) }
+    requires { (chf.old.state.count == 0) ≡ false }
+    ensures line { OnOk result (out.new.items ≡ out.old.items ++ message_line (message_reply chf.old.state (request_at method path.now body.now))) }
+    ensures state { OnOk result (chf.new.state ≡ after_message chf.old.state (request_at method path.now body.now)) }
 {
     match request_at(alloc, method, path, body)? {
         Ok(request) => push_charge(alloc, chf, &Command::Charge { request }, out),
@@ -145,8 +140,9 @@ fn push_row(
     fields: &[Text],
     out: &mut Vec<u8>,
 ) -> Result<(), OutOfMemory>
-    ensures line { OnOk result (out.new.items ≡ out.old.items ++ command_line chf.old.list (command_of fields.now)) }
-    ensures list { OnOk result (chf.new.list ≡ after_command chf.old.list (command_of fields.now)) }
+    requires { (chf.old.state.count == 0) ≡ false }
+    ensures line { OnOk result (out.new.items ≡ out.old.items ++ command_line chf.old.state (command_of fields.now)) }
+    ensures state { OnOk result (chf.new.state ≡ after_command chf.old.state (command_of fields.now)) }
 {
     match read_operator_row(alloc, fields)? {
         Some(command) => push_command(alloc, chf, &command, out),
@@ -161,8 +157,9 @@ fn push_item(
     item: &Item,
     out: &mut Vec<u8>,
 ) -> Result<(), OutOfMemory>
-    ensures line { OnOk result (out.new.items ≡ out.old.items ++ line_of chf.old.list item.now) }
-    ensures list { OnOk result (chf.new.list ≡ after_item chf.old.list item.now) }
+    requires { (chf.old.state.count == 0) ≡ false }
+    ensures line { OnOk result (out.new.items ≡ out.old.items ++ line_of chf.old.state item.now) }
+    ensures state { OnOk result (chf.new.state ≡ after_item chf.old.state item.now) }
 {
     match item {
         Item::Blank => Ok(()),
@@ -176,7 +173,7 @@ fn push_item(
 
 // A machine that is set up.
 fn set_up(alloc: Global, setup: ChfSetup) -> Result<Chf, OutOfMemory>
-    ensures { IfOk result (λ chf. chf.list ≡ Setup setup ∷ []) }
+    ensures { IfOk result (λ chf. chf.state ≡ after nothing_yet (Setup setup)) }
 {
     let mut chf = Chf::new(alloc);
     match chf.decide(alloc, &Command::Setup { setup })? {
@@ -190,7 +187,7 @@ fn set_up(alloc: Global, setup: ChfSetup) -> Result<Chf, OutOfMemory>
 
 /// What a run prints that begins with a setup.
 pub fn printed(alloc: Global, setup: ChfSetup, items: &[Item]) -> Result<Vec<u8>, OutOfMemory>
-    ensures { IfOk result (λ out. out.items ≡ printed (Setup setup ∷ []) items.now) }
+    ensures { IfOk result (λ out. out.items ≡ printed (after nothing_yet (Setup setup)) items.now) }
 {
     let mut out = Vec::new(alloc);
     let mut chf = set_up(alloc, setup)?;

@@ -5,4 +5,6 @@ ghost use Rattle.charging.specs.Laws.{EachMessageIsAnswered};
 /// for each (this product's own).
 pub fn each_message_is_answered()
     ensures { EachMessageIsAnswered }
-{}
+{
+    chf_core::requests_are_answered();
+}

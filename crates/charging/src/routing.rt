@@ -1,29 +1,17 @@
 //! What a message asks of the charging function: its path, its method and its body are looked at, in this order.
 ghost use Rattle.std.specs.Prelude.{◌≡◌, ◌⊎◌, Err, IfOk, Ok, Some, None, option_map};
 ghost use Rattle.charging_json.specs.Request.{request_in};
-ghost use Rattle.charging.specs.Routing.{below, body_problem, by_method, by_operation, collection, deed, field_of, in_session, not_found, operation_at, operation_in, or_problem, problem, reference_in, request_at};
+ghost use Rattle.charging.specs.Routing.{below, body_problem, by_method, by_operation, collection, deed, field_of, in_session, not_found, operation_at, operation_in, or_problem, reference_in, request_at};
 
 use crate::item::Method;
 use crate::line_items::after_word;
 use charging_json::{cause_of, read_request};
+use chf_core::problem;
 use rows::{number, piece_length};
 use std::alloc::{AllocError, Global};
 use units::{
     Cause, JsonRefusal, Operation, OutOfMemory, Problem, Reply, Request, Text, copy, name_of_cause,
 };
-
-/// Problem details without a detail.
-pub fn problem(alloc: Global, status: u16, cause: Cause) -> Result<Reply, AllocError>
-    ensures { IfOk result (λ r. r ≡ problem status cause None) }
-{
-    Ok(Reply::Refused {
-        problem: Problem {
-            status,
-            cause: Text::from_text(alloc, name_of_cause(cause))?,
-            detail: None,
-        },
-    })
-}
 
 /// The reference that a session's name is; 0, which no session has, where it is none.
 fn reference_in(name: &[u8]) -> u32

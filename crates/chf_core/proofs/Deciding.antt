@@ -1,12 +1,12 @@
 -- A request is decided by what its session keeps alone.
-use Rattle.std.proofs.Common.{◌≡◌, ◌==◌, ◌&&◌, ℕ, Bool, true, false, cond, not, nat_le, List, [], ◌∷◌, map, length, Option, Some, None, option_map, refl, sym, ap, ◌∙◌, subst, arith, ⊎_elim}
+use Rattle.std.proofs.Common.{◌≡◌, ◌==◌, ◌&&◌, ℕ, Bool, true, false, cond, not, nat_le, List, [], ◌∷◌, length, Option, Some, None, refl, sym, ap, ◌∙◌, subst, arith, ⊎_elim}
 use Rattle.std.specs.Option.{option_or}
 use Rattle.units.specs.declared.request.Operation.{Operation}
 use Rattle.units.specs.declared.request.Operation.TheVariants.{Create, Update, Release}
 use Rattle.units.specs.declared.request.Request.{Request}
 use Rattle.units.specs.declared.reply.Reply.{Reply}
 use Rattle.sessions.specs.Content.{content, same_content}
-use Rattle.sessions.specs.Kept.{Kept as KeptRequest, is_success, is_release, accepted, newest_number, has_release}
+use Rattle.sessions.specs.Kept.{Kept as KeptRequest, accepted, newest_number, has_release}
 use Rattle.sessions.specs.Decided.{Repeats, Passed, Over, IsNew, kept_under, decided_create, decided_later, decided_new, decided_under, decided}
 use Rattle.chf_core.specs.declared.command.Command.{Command}
 use Rattle.chf_core.specs.declared.command.Command.TheVariants.{Charge}

@@ -1,5 +1,5 @@
 -- A request that is fresh in a state has a key of its own, which has no place before.
-use Rattle.std.proofs.Common.{◌≡◌, ℕ, Bool, true, false, cond, List, Option, Some, None, refl, sym, ap, ◌∙◌}
+use Rattle.std.proofs.Common.{◌≡◌, ℕ, Bool, true, false, cond, Option, Some, None, refl, sym, ap, ◌∙◌}
 use Rattle.std.specs.Option.{option_or}
 use Rattle.units.specs.declared.request.Request.{Request}
 use Rattle.chf_core.specs.declared.command.Command.TheVariants.{Charge}

@@ -1,5 +1,5 @@
 -- First replies are in the ranges of replies.
-use Rattle.std.proofs.Common.{◌≡◌, ◌≤◌, ◌<◌, ◌==◌, ◌&&◌, ◌-◌, ◌^◌, ℕ, zero, suc, ◌+◌, Bool, true, false, cond, min, nat_le, if◌then◌else◌, List, [], ◌∷◌, ◌++◌, length, slice_set, Option, Some, None, is_some, option_map, refl, sym, ap, ◌∙◌, subst, arith}
+use Rattle.std.proofs.Common.{◌≡◌, ◌≤◌, ◌<◌, ◌==◌, ◌&&◌, ◌-◌, ◌^◌, ℕ, zero, suc, ◌+◌, Bool, true, false, nat_le, if◌then◌else◌, List, [], ◌∷◌, ◌++◌, length, slice_set, Option, Some, None, is_some, option_map, refl, ap, arith}
 use Rattle.std.specs.List.{AllByRecursion}
 use Rattle.std.proofs.lemmas.Bool.Decides.{nat_tests}
 use Rattle.std.proofs.lemmas.List.{length-append}
@@ -8,7 +8,6 @@ use Rattle.units.specs.declared.request.Operation.{Operation}
 use Rattle.units.specs.declared.request.Operation.TheVariants.{Create, Update, Release}
 use Rattle.units.specs.declared.request.UnitUsage.{UnitUsage}
 use Rattle.units.specs.declared.request.Request.{Request}
-use Rattle.units.specs.declared.answer.UnitInfo.{UnitInfo}
 use Rattle.units.specs.Limits.{greatest_moment}
 use Rattle.units.specs.Ranges.{Is32, IsMoment, IsVolume, IfGiven, FitsUsage, FitsRequest}
 use Rattle.units.specs.ReplyRanges.{FitsAmount, FitsInfo, FitsAnswer, FitsReply}
@@ -19,7 +18,7 @@ use Rattle.rating.specs.declared.period.Period.{Period}
 use Rattle.rating.specs.declared.grant.Grant.{Grant}
 use Rattle.rating.specs.Row.{AreSmall, most_chunk}
 use Rattle.rating.specs.Tariff.{GroupTariff, tariff, periods}
-use Rattle.rating.specs.Switch.{next_switch, switch_after, in_range, soonest}
+use Rattle.rating.specs.Switch.{switch_after, in_range, soonest}
 use Rattle.rating.specs.Grant.{grant, no_quota}
 use Rattle.rating.specs.Laws.{TermsAreSmall, GrantsAreSmall}
 use Rattle.units.specs.declared.answer.Code.TheVariants.{Denied}
@@ -29,8 +28,8 @@ use Rattle.chf_core.specs.declared.target.GroupAsk.{GroupAsk}
 use Rattle.chf_core.specs.declared.session.Session.{Session}
 use Rattle.chf_core.specs.declared.command.Command.{Command}
 use Rattle.chf_core.specs.declared.command.Command.TheVariants.{Charge}
-use Rattle.chf_core.specs.Operator.{bars}
-use Rattle.chf_core.specs.Sessions.{account_for, sessions, sessions_after, opened, write_session, by_reference}
+use Rattle.chf_core.specs.Barring.{bars}
+use Rattle.chf_core.specs.Sessions.{account_for, sessions, sessions_after, write_session, by_reference}
 use Rattle.chf_core.specs.Effect.{Rating, mentions, first_ask, asking, asks_after, asks_of, settled, granted, with_grant, terms_of, positive, amount_of, for_volume, for_time, bare, quota_info, is_success, info_by, infos}
 use Rattle.chf_core.specs.Money.{money, rating_of, target_of, infos_for, answer_of, created, reply_by, first_reply}
 

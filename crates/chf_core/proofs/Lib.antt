@@ -6,15 +6,12 @@ pub mod Results
 pub mod Admitted
 pub mod Walks
 pub mod Clear
-pub mod Granting
 pub mod Owned
 pub mod Keyed
 pub mod NameLists
 pub mod Consumers
 pub mod Few
-pub mod Kept
 pub mod Following
-pub mod Telling
 pub mod Charging
 mod Moved
 mod Counted

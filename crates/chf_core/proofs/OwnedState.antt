@@ -6,7 +6,7 @@ use Rattle.units.specs.declared.request.Operation.TheVariants.{Create, Update, R
 use Rattle.units.specs.declared.request.Request.{Request}
 use Rattle.accounts.specs.declared.reservation.Reservation.{Reservation}
 use Rattle.accounts.specs.declared.moves.Move.TheVariants.{Expired}
-use Rattle.accounts.specs.Reservations.{at, ReservationMap}
+use Rattle.accounts.specs.Reservations.{at}
 use Rattle.chf_core.specs.Owners.{IsOwned}
 use Rattle.chf_core.specs.After.{after}
 use Rattle.accounts.specs.Endings.{Until}
@@ -21,7 +21,7 @@ use Rattle.chf_core.specs.Admits.{OwnsAll}
 use Rattle.chf_core.specs.Money.{used, opened_target, named_target}
 use Rattle.chf_core.specs.Effect.{Rating}
 use Rattle.chf_core.specs.State.{State, account_named, account_for, session_at}
-use Rattle.chf_core.specs.CommandMoves.{target_by, target_of, rating_of, moves_for, adding, topping, moves_of}
+use Rattle.chf_core.specs.CommandMoves.{target_by, target_of, rating_of, adding, topping, moves_of}
 use Rattle.chf_core.proofs.Named.{Lasting, lasting, Keeps, keeps_after, pushed_owner}
 use Rattle.chf_core.proofs.Owned.{AreOwned, account_in, owned_used, owned_kept, owned_without, account_stays, past_end}
 use Rattle.chf_core.proofs.JoinedMoney.{made_request}

@@ -1,10 +1,10 @@
 -- Kept requests in the order of their places: what is found by halves, and one more at the end.
-use Rattle.std.proofs.Common.{◌≡◌, ◌<◌, ◌≤◌, ◌==◌, ◌+◌, ℕ, zero, suc, Bool, true, false, cond, List, [], ◌∷◌, ◌++◌, length, find, get_or, slice_get, Option, Some, None, refl, sym, ap, ◌∙◌, arith, ltb, ltb-true, ltb-false}
+use Rattle.std.proofs.Common.{◌≡◌, ◌<◌, ◌≤◌, ◌==◌, ◌+◌, ℕ, zero, suc, true, false, cond, List, [], ◌∷◌, ◌++◌, length, find, get_or, slice_get, Some, None, refl, ap, ◌∙◌, arith, ltb, ltb-true, ltb-false}
 use Rattle.std.specs.List.{AllWithin}
 use Rattle.std.specs.List.Sorted.{IsNonDecreasingBy}
 use Rattle.chf_core.specs.declared.kept_request.KeptRequest.{KeptRequest}
 use Rattle.chf_core.specs.Placed.{AreAscending, AreBelow, if_at}
-use Rattle.chf_core.proofs.Places.{eq_yes, eq_no}
+use Rattle.chf_core.proofs.Places.{eq_no}
 
 -- each place is at least the least
 at_least : (least : ℕ) (rs : List KeptRequest) (j : ℕ) (d : KeptRequest)

@@ -8,8 +8,7 @@ use Rattle.chf_core.specs.declared.command.Command.{Command}
 use Rattle.chf_core.specs.declared.command.Command.TheVariants.{Setup, Charge, Subscriber, TopUp, Expire}
 use Rattle.chf_core.specs.declared.command.Outcome.TheVariants.{Charged, Done}
 use Rattle.chf_core.specs.declared.refusal.ChfRefusal.TheVariants.{SessionClosed, SequencePassed, TopUpDiffers}
-use Rattle.chf_core.specs.declared.decision.Verdict.{Verdict}
-use Rattle.chf_core.specs.declared.decision.Verdict.TheVariants.{Kept, Known, Refused, Fresh}
+use Rattle.chf_core.specs.declared.decision.Verdict.TheVariants.{Known, Refused, Fresh}
 use Rattle.chf_core.specs.declared.session.Session.{Session}
 use Rattle.chf_core.specs.declared.subscription.Sum.{Sum}
 use Rattle.chf_core.specs.declared.key.Key.{Key}
@@ -17,7 +16,7 @@ use Rattle.chf_core.specs.Operator.{name_eq, subscription_of, account_number, to
 use Rattle.chf_core.specs.Sessions.{named_by}
 use Rattle.chf_core.specs.Keys.{key_of, place_of, command_at, is_repeat}
 use Rattle.chf_core.specs.Money.{money, first_reply}
-use Rattle.chf_core.specs.Decisions.{decision, at_key, at_place, at_new, at_new_create, at_new_later, at_kept, last_of, decide_subscriber, decide_again, decide_topup, decide_expire, same_row}
+use Rattle.chf_core.specs.Decisions.{decision, at_key, at_place, at_new, at_new_create, at_new_later, at_kept, last_of, decide_subscriber, decide_again, decide_topup, same_row}
 use Rattle.chf_core.specs.Verdicts.{IsOfRequest, IsOfOperator, IsOfCommand}
 use Rattle.chf_core.proofs.FirstReplies.{first_replies}
 

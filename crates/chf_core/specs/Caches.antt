@@ -1,57 +1,57 @@
--- What the machine keeps beside its commands. No public clause names these.
-use Rattle.std.specs.Prelude.{◌≡◌, ℕ, ◌-◌, ◌≤◌, min, List, [], length, reverse, vec_len, vec_capacity}
-use Rattle.std.specs.HashMap.{get_by_text, spare}
-use Rattle.accounts.specs.Ledger.{Contents}
+-- What the machine keeps, and what it keeps beside its state: where keys and names are found. No public clause names
+-- these.
+use Rattle.std.specs.Prelude.{◌≡◌, ◌≤◌, ◌-◌, ◌==◌, ℕ, min, false, IsSome, [], length, vec_len, vec_capacity, Option, Some, None}
 use Rattle.chf_core.specs.declared.key.Name.{Name}
 use Rattle.chf_core.specs.declared.key.Key.{Key}
-use Rattle.chf_core.specs.declared.command.Command.{Command}
-use Rattle.chf_core.specs.declared.command.Outcome.{Outcome}
-use Rattle.chf_core.specs.declared.session.Session.{Session}
-use Rattle.chf_core.specs.declared.operator.Operator.{Operator}
-use Rattle.chf_core.specs.declared.key_table.KeyTable.{KeyTable}
+use Rattle.chf_core.specs.declared.decision.Decision.{Decision}
+use Rattle.chf_core.specs.declared.decision.Decision.TheVariants as decided
+use Rattle.chf_core.specs.declared.decision.Verdict.{Verdict}
+use Rattle.chf_core.specs.declared.decision.Verdict.TheVariants.{Kept, Known, Refused, Fresh}
 use Rattle.chf_core.specs.declared.chf.Chf.TheInside.{Inside}
-use Rattle.chf_core.specs.Operator.{setup_of, subscription_of, account_names, topup_of}
-use Rattle.chf_core.specs.Sessions.{sessions, reference_of}
-use Rattle.chf_core.specs.Keys.{place_of}
-use Rattle.chf_core.specs.Money.{money}
-use Rattle.chf_core.specs.Outcomes.{outcomes_of}
 use Rattle.chf_core.specs.KeyTable.{kept_place, kept_reference, AreKnown, room}
-use Rattle.chf_core.specs.Machine.{Machine, consumer_names}
+use Rattle.chf_core.specs.Owners.{IsOwned}
+use Rattle.chf_core.specs.Placed.{AreAscending, AreBelow}
+use Rattle.chf_core.specs.State.{State, place_of, reference_of}
+use Rattle.chf_core.specs.Machine.{Machine}
 
--- the operator's tables are those of the commands
-pub record KeepsOperator (o : Operator) (commands : List Command) : Type 0 where
-  pub setup : o.setup ≡ setup_of commands
-  pub none : o.no_tariffs ≡ []
-  pub names : o.names.list ≡ account_names commands
-  pub subscribers : (supi : List ℕ) → get_by_text o.subscribers supi ≡ subscription_of commands supi
-  pub topups : (id : List ℕ) → get_by_text o.topups id ≡ topup_of commands id
-
--- and so are the keys
-pub record KeepsKeys (v : KeyTable) (commands : List Command) : Type 0 where
-  pub places : (k : Key) → kept_place v k ≡ place_of commands k
-  pub references : (n : Name) → kept_reference v n ≡ reference_of commands n
-  pub known : AreKnown v
-  pub consumers : v.consumers.list ≡ consumer_names commands
-
--- all that is kept is what the commands stand for
-pub record IsKept (commands : List Command) (told : List Outcome) (o : Operator) (v : KeyTable) (s : List Session) (accounts : Contents) : Type 0 where
-  pub told_are : reverse told ≡ outcomes_of commands
-  pub operator : KeepsOperator o commands
-  pub keyed : KeepsKeys v commands
-  pub sessions : s ≡ sessions commands
-  pub money : accounts.state ≡ money commands
-  pub few : length commands ≤ 4294967295
+-- the state that the fields stand for
+abbrev pub state_seen : Inside → State
+state_seen c = record {
+  setup = c.setup;
+  count = c.count;
+  names = c.names.list;
+  subscribers = c.subscribers.of;
+  topups = c.topups.of;
+  sessions = c.sessions.items;
+  money = c.accounts.state;
+  requests = c.requests.items;
+}
 
 -- for how many more commands there is room
 abbrev pub places : Inside → ℕ
 places c =
-    min (min (min (vec_capacity c.commands - vec_len c.commands) (vec_capacity c.outcomes - vec_len c.outcomes)) (min (vec_capacity c.sessions - vec_len c.sessions) (4294967295 - vec_len c.commands)))
-    (min (min (spare c.operator.subscribers) (spare c.operator.topups)) (min (room c.keyed) c.operator.names.room))
+    min (min (min (vec_capacity c.sessions - vec_len c.sessions) (vec_capacity c.requests - vec_len c.requests)) (min (room c.keyed) (4294967295 - c.count)))
+    (min c.names.room (min c.subscribers.spare c.topups.spare))
 
 -- the value of the machine
 abbrev pub machine : Inside → Machine
-machine c = record { list = reverse c.commands.items; places = places c; moves = c.accounts.spare }
+machine c = record { state = state_seen c; consumers = c.keyed.consumers.list; places = places c; moves = c.accounts.spare }
 
 -- what holds of its fields
-abbrev pub HasKept : Inside → Type 0
-HasKept c = IsKept (reverse c.commands.items) c.outcomes.items c.operator c.keyed c.sessions.items c.accounts
+pub record IsIndexed (c : Inside) : Type 0 where
+  pub set_up : (c.count == 0) ≡ false → IsSome c.setup
+  pub unbarred : c.none_barred ≡ []
+  pub places : (k : Key) → kept_place c.keyed k ≡ place_of (state_seen c) k
+  pub references : (n : Name) → kept_reference c.keyed n ≡ reference_of (state_seen c) n
+  pub known : AreKnown c.keyed
+  pub ascending : AreAscending 0 c.requests.items
+  pub below : AreBelow c.count c.requests.items
+  pub owned : IsOwned (state_seen c)
+  pub few : length c.sessions.items ≤ c.count
+
+-- what is answered without a plan: nothing on what is fresh
+abbrev pub answer_by : Verdict → Option Decision
+answer_by (Kept place) = Some (decided.Kept place)
+answer_by Known = Some decided.Known
+answer_by (Refused refusal) = Some (decided.Refused refusal)
+answer_by (Fresh o) = None

@@ -34,6 +34,7 @@ target_by Create s q = opened_target (length s.sessions) (account_for s q.subscr
 target_by (Update reference) s q = named_target reference (session_at s reference)
 target_by (Release reference) s q = named_target reference (session_at s reference)
 
+-- whom a request charges: the account of its session, which a Create opens where its subscriber has an account
 abbrev pub target_of : State → Request → Option Target
 target_of s q = target_by q.operation s q
 

@@ -81,6 +81,7 @@ at_new_later s q (Some z) =
     if nat_le q.number z.last then Refused (SequencePassed z.last)
     else (if z.is_open then fresh_charge s q else Refused (SessionClosed z.last))
 
+-- under a new key, by the operation
 abbrev pub at_new : Operation → State → Request → Option Session → Verdict
 at_new Create s q z = at_new_create s q z
 at_new (Update reference) s q z = at_new_later s q z

@@ -1,5 +1,5 @@
 -- What is decided on a command after a list of commands, the newest first: the order of checks (TS 32.290, 5.3.2; the order is this product's own).
-use Rattle.std.specs.Prelude.{◌≡◌, ℕ, ◌-◌, ◌^◌, ◌≤◌, ◌⊎◌, ◌==◌, ◌&&◌, nat_le, length, Bool, true, false, if◌then◌else◌, List, Option, Some, None}
+use Rattle.std.specs.Prelude.{ℕ, ◌==◌, ◌&&◌, nat_le, Bool, true, false, if◌then◌else◌, List, Option, Some, None}
 use Rattle.std.specs.Cmp.Lexicographic.{pointwise}
 use Rattle.std.specs.Prelude.{nat_eq}
 use Rattle.units.specs.declared.request.Operation.{Operation}
@@ -98,7 +98,3 @@ decision commands (Charge q) = at_key commands q (key_of commands q)
 decision commands (Subscriber supi account barred) = decide_subscriber (same_row account barred (subscription_of commands supi))
 decision commands (TopUp id account amount) = decide_topup account amount (account_number commands account) (topup_of commands id)
 decision commands (Expire moment) = decide_expire (count_ending (money commands).reservations (Until moment))
-
--- where want of memory may be answered: on a fresh command, or where the list is full
-abbrev pub MayWantMemory : List Command → Command → Type 0
-MayWantMemory commands c = (2 ^ 32 - 1 ≤ length commands) ⊎ (is_fresh (decision commands c) ≡ true)

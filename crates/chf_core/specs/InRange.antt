@@ -1,5 +1,5 @@
 -- First replies in the ranges of replies (TS 32.291, 6.1.6.2.1.6 to 6.1.6.2.1.10; the bounds are this product's own).
-use Rattle.std.specs.Prelude.{ℕ, ◌-◌, ◌^◌, ◌<◌, List, length}
+use Rattle.std.specs.Prelude.{◌-◌, ◌^◌, ◌<◌, List, length}
 use Rattle.units.specs.declared.request.Request.{Request}
 use Rattle.units.specs.Ranges.{FitsRequest}
 use Rattle.units.specs.ReplyRanges.{FitsReply}

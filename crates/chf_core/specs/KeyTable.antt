@@ -1,7 +1,7 @@
 -- What is kept of requests and sessions by the number of their consumer. No public clause names these.
-use Rattle.std.specs.Prelude.{◌≡◌, ℕ, ◌<◌, ◌==◌, ◌&&◌, min, Bool, List, length, Option, IfSome}
+use Rattle.std.specs.Prelude.{◌≡◌, ℕ, ◌<◌, ◌==◌, ◌&&◌, min, Bool, length, Option, IfSome}
 use Rattle.std.specs.Option.{option_and_then}
-use Rattle.std.specs.HashMap.{HashMap, get, spare}
+use Rattle.std.specs.HashMap.{get, spare}
 use Rattle.chf_core.specs.declared.key.Name.{Name}
 use Rattle.chf_core.specs.declared.key.Key.{Key}
 use Rattle.chf_core.specs.declared.numbered.NumberedName.{NumberedName}

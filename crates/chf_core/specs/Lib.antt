@@ -1,3 +1,4 @@
+pub mod Barring
 pub mod Operator
 pub mod Sessions
 pub mod Keys
@@ -15,7 +16,6 @@ pub mod Machine
 pub mod Cached
 pub mod Caches
 pub mod Trials
-pub mod TrialKept
 pub mod AccountMoves
 pub mod Ledger
 pub mod MoneyLaws
@@ -34,5 +34,3 @@ pub mod InRange
 pub mod TextTable
 pub mod Placed
 pub mod Owners
-pub mod Chf
-pub mod ChfKept

@@ -1,5 +1,5 @@
 -- Names in the order in which they came, as the machine keeps them. No public clause names these.
-use Rattle.std.specs.Prelude.{◌≡◌, ℕ, List, Option, Some, None, IfSome, IsSome, string_bytes}
+use Rattle.std.specs.Prelude.{◌≡◌, ℕ, List, Option, None, IfSome, IsSome, string_bytes}
 use Rattle.chf_core.specs.declared.names.NewName.{NewName}
 use Rattle.chf_core.specs.Operator.{number_in}
 

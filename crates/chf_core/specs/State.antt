@@ -112,6 +112,7 @@ key_by Create s q = Some (key q.consumer (id_of q.charging_id) q.number)
 key_by (Update reference) s q = key_in q (session_at s reference)
 key_by (Release reference) s q = key_in q (session_at s reference)
 
+-- the key of a request
 abbrev pub key_of : State → Request → Option Key
 key_of s q = key_by q.operation s q
 

@@ -1,6 +1,5 @@
 -- Which verdicts a command may get: each request is answered by a reply, and each operator's command carried out, known or refused (TS 32.290, 5.3.2; this product's own).
-use Rattle.std.specs.Prelude.{◌≡◌, ⊤, ℕ, List, Some}
-use Rattle.units.specs.declared.request.Request.{Request}
+use Rattle.std.specs.Prelude.{◌≡◌, ⊤, List, Some}
 use Rattle.units.specs.declared.reply.Reply.{Reply}
 use Rattle.chf_core.specs.declared.command.Command.{Command}
 use Rattle.chf_core.specs.declared.command.Command.TheVariants.{Setup, Charge, Subscriber, TopUp, Expire}

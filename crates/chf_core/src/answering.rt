@@ -1,20 +1,37 @@
 //! What is answered on a command that is not fresh, by the order of checks.
-ghost use Rattle.std.specs.Prelude.{◌≡◌, option_copied};
+ghost use Rattle.std.specs.Prelude.{◌≡◌, ◌-◌, Some, option_copied};
 ghost use Rattle.accounts.specs.Endings.{count_ending, Until};
 ghost use Rattle.chf_core.specs.Keys.{key};
 ghost use Rattle.chf_core.specs.Decisions.{last_of, at_kept, same_row, decide_subscriber, decide_again, decide_topup, decide_expire};
 ghost use Rattle.chf_core.specs.State.{at_text, account_named, named_by, key_of, place_of};
 ghost use Rattle.chf_core.specs.Deciding.{decision, at_key, at_place, at_new, at_new_create, at_new_later};
-ghost use Rattle.chf_core.specs.ChfKept.{answer_by};
+ghost use Rattle.chf_core.specs.Caches.{answer_by};
 
+use crate::chf::Chf;
 use crate::command::Command;
-use crate::machine::Chf;
-use crate::planned::Decision;
+use crate::decision::Decision;
 use crate::refusal::ChfRefusal;
 use crate::session::Session;
-use crate::subscription::Sum;
-use crate::verdict::{last_of, same_row};
-use units::{Moment, Operation, Request, Text};
+use crate::subscription::{Subscription, Sum};
+use units::{List, Moment, Operation, Request, Text};
+
+fn last_of(session: Option<&Session>) -> u32
+    ensures { result ≡ last_of (option_copied session.entry) }
+{
+    match session {
+        Some(s) => s.last,
+        None => 0,
+    }
+}
+
+fn same_row(account: &Text, barred: &List<u32>, row: Option<&Subscription>) -> bool
+    ensures { result ≡ same_row account.now barred.now (option_copied row.entry) }
+{
+    match row {
+        Some(s) => s.account == *account && s.barred.are(barred),
+        None => false,
+    }
+}
 
 fn answer_subscriber(is_same: bool) -> Option<Decision>
     ensures { result ≡ answer_by (decide_subscriber is_same) }

@@ -1,83 +1,105 @@
 //! The machine: it decides on a command, and commits what is fresh.
-ghost use Rattle.std.specs.Prelude.{◌≡◌, ◌∷◌, [], IfOk, OnErr, slice_get, option_copied, option_map, length};
+ghost use Rattle.std.specs.Prelude.{◌≡◌, ◌==◌, IfOk, OnErr, option_copied, option_map, length};
 ghost use Rattle.accounts.specs.Deadlines.{IsLeast};
-ghost use Rattle.chf_core.specs.Operator.{account_names, setup_of};
-ghost use Rattle.chf_core.specs.Sessions.{reference_of, name};
-ghost use Rattle.chf_core.specs.Decisions.{MayWantMemory};
-ghost use Rattle.chf_core.specs.Money.{money};
-ghost use Rattle.chf_core.specs.Outcomes.{outcome_at};
-ghost use Rattle.chf_core.specs.Machine.{account_name, Answers, IsReady};
+ghost use Rattle.chf_core.specs.Sessions.{name};
+ghost use Rattle.chf_core.specs.State.{nothing_yet, reference_of, kept_at};
+ghost use Rattle.chf_core.specs.After.{after, is_setup};
+ghost use Rattle.chf_core.specs.Machine.{account_name, Answers, IsReady, MayWantMemory};
 
+use crate::barred::Barred;
 use crate::command::{Command, Outcome};
-use crate::decision::{Decision, Plan, Verdict};
+use crate::decision::{Decision, Plan};
+use crate::found_requests::found_at;
+use crate::kept_request::KeptRequest;
 use crate::key_table::KeyTable;
-use crate::operator::Operator;
+use crate::names::Names;
 use crate::session::Session;
+use crate::setup::ChfSetup;
+use crate::subscription::{Subscription, Sum};
+use crate::text_table::TextTable;
 use accounts::Accounts;
 use rating::Tariffs;
 use std::alloc::Global;
 use std::marker::Model;
 use units::{Moment, OutOfMemory};
 
-/// The charging function: the commands that it took and what each came to (TS 32.290, 5.3.2). Each command is decided first, and what is
-/// fresh is then committed.
+/// The charging function: what its commands left (TS 32.290, 5.3.2). Each command is decided first, and what is fresh is
+/// then committed.
 #[derive(Drop)]
 pub struct Chf {
-    pub(crate) commands: Vec<Command>,
-    pub(crate) outcomes: Vec<Outcome>,
-    pub(crate) operator: Operator,
-    pub(crate) keyed: KeyTable,
+    pub(crate) setup: Option<ChfSetup>,
+    pub(crate) count: u32,
+    pub(crate) names: Names,
+    pub(crate) none_barred: Barred,
+    pub(crate) subscribers: TextTable<Subscription>,
+    pub(crate) topups: TextTable<Sum>,
     pub(crate) sessions: Vec<Session>,
     pub(crate) accounts: Accounts,
+    pub(crate) requests: Vec<KeptRequest>,
+    pub(crate) keyed: KeyTable,
 }
 
 impl Model for Chf {
     ghost use Rattle.chf_core.specs.Machine.{Machine};
-    ghost use Rattle.chf_core.specs.Caches.{machine, HasKept};
 
     ghost Value = { Machine };
 
+    ghost use Rattle.std.specs.Coded.{codes};
+    ghost use Rattle.accounts.specs.Ledger.{coded_state};
+
+    ghost coded = { Prim.hlevel (codes, coded_state) };
+
+    ghost use Rattle.chf_core.specs.Caches.{machine, IsIndexed};
+
     ghost view = { machine };
 
-    ghost invariant = { HasKept };
+    ghost invariant = { IsIndexed };
 }
 
-fn outcome_in(outcomes: &[Outcome], place: usize) -> Option<&Outcome>
-    ensures { option_copied result ≡ slice_get outcomes.now place }
+// What a kept request came to.
+fn outcome_in(request: Option<&KeptRequest>) -> Option<&Outcome>
+    ensures { option_copied result ≡ option_map (λ r. r.outcome) (option_copied request.entry) }
 {
-    outcomes.get(place)
+    match request {
+        Some(r) => Some(&r.outcome),
+        None => None,
+    }
 }
 
 impl Chf {
     /// No command. Takes no memory.
     pub fn new(alloc: Global) -> Chf
-        ensures { result.list ≡ [] }
+        ensures { result.state ≡ nothing_yet }
     {
         Chf {
-            commands: Vec::new(alloc),
-            outcomes: Vec::new(alloc),
-            operator: Operator::new(alloc),
-            keyed: KeyTable::new(alloc),
+            setup: None,
+            count: 0,
+            names: Names::new(alloc),
+            none_barred: Barred::none(alloc),
+            subscribers: TextTable::new(alloc),
+            topups: TextTable::new(alloc),
             sessions: Vec::new(alloc),
             accounts: Accounts::new(alloc),
+            requests: Vec::new(alloc),
+            keyed: KeyTable::new(alloc),
         }
     }
 
-    /// What is decided on a command; where it is fresh, with a plan that owns all that its commit needs. Nothing that is seen changes. Want of
-    /// memory is answered only on a fresh command or where the list is full, and too where the sums of an account would not fit their types.
+    /// What is decided on a command; where it is fresh, with a plan that owns all that its commit needs. The setup is the
+    /// first command and no other. Nothing that is seen changes. Want of memory is answered only on a fresh command or where there is no further place, and too
+    /// where the sums of an account would not fit their types.
     pub fn decide(&mut self, alloc: Global, command: &Command) -> Result<Decision, OutOfMemory>
-        ensures same { self.new.list ≡ self.old.list }
+        requires order { is_setup command.now ≡ (self.old.state.count == 0) }
+        ensures same { self.new.state ≡ self.old.state }
         ensures answer { IfOk result (Answers self.new command.now) }
-        ensures memory { OnErr result (MayWantMemory self.old.list command.now) }
+        ensures memory { OnErr result (MayWantMemory self.old.state command.now) }
     {
-        if self.commands.len() >= 4_294_967_295 {
+        if self.count == 4_294_967_295 {
             return Err(OutOfMemory);
         }
-        match self.verdict(alloc, command)? {
-            Verdict::Kept { place } => Ok(Decision::Kept(place)),
-            Verdict::Known => Ok(Decision::Known),
-            Verdict::Refused { refusal } => Ok(Decision::Refused(refusal)),
-            Verdict::Fresh { outcome } => Ok(Decision::Fresh(self.plan(alloc, command, outcome)?)),
+        match self.answer(command) {
+            Some(decision) => Ok(decision),
+            None => Ok(Decision::Fresh(self.plan(alloc, command)?)),
         }
     }
 
@@ -88,88 +110,91 @@ impl Chf {
         &plan.outcome
     }
 
-    /// Appends the command of a plan, the last one made. It takes no memory and can't fail.
+    /// Takes the command of a plan in, the last one made. It takes no memory and can't fail.
     pub fn commit(&mut self, plan: Plan)
         requires { IsReady self.old plan }
-        ensures { self.new.list ≡ plan.command ∷ self.old.list }
+        ensures { self.new.state ≡ after self.old.state plan.command }
     {
         let Plan {
             command,
             outcome,
-            copies,
+            moves,
+            change,
         } = plan;
         match command {
-            Command::Setup { setup } => self.commit_setup(setup, outcome, copies),
-            Command::Charge { request } => self.commit_charge(request, outcome, copies),
+            Command::Setup { setup } => self.commit_setup(setup, outcome, moves, change),
+            Command::Charge { request } => self.commit_charge(request, outcome, moves, change),
             Command::Subscriber {
                 supi,
                 account,
                 barred,
-            } => self.commit_subscriber(supi, account, barred, outcome, copies),
+            } => self.commit_subscriber(supi, account, barred, outcome, moves, change),
             Command::TopUp {
                 id,
                 account,
                 amount,
-            } => self.commit_topup(id, account, amount, outcome, copies),
-            Command::Expire { moment } => self.commit_expire(moment, outcome, copies),
+            } => self.commit_topup(id, account, amount, outcome, moves, change),
+            Command::Expire { moment } => self.commit_expire(moment, outcome, moves, change),
         }
     }
 
-    /// What the command at a place came to, from the commands before it; `None` exactly past the last one.
+    /// What the request that is kept at a place came to, its first reply; `None` where no request is kept, as at the
+    /// place of an operator's command.
     pub fn outcome_at(&self, place: u32) -> Option<&Outcome>
-        ensures { option_copied result ≡ outcome_at self.now.list place }
+        ensures { option_copied result ≡ option_map (λ r. r.outcome) (kept_at self.now.state place) }
     {
-        outcome_in(&self.outcomes, place as usize)
+        outcome_in(self.kept_at(place))
     }
 
-    /// How many commands there are.
+    /// How many commands there were.
     pub fn count(&self) -> u32
-        ensures { result ≡ length self.now.list }
+        ensures { result ≡ self.now.state.count }
     {
-        self.commands.len() as u32
+        self.count
     }
 
     /// The accounts after the commands.
     pub fn accounts(&self) -> &Accounts
-        ensures { result.now.state ≡ money self.now.list }
+        ensures { result.now.state ≡ self.now.state.money }
     {
         &self.accounts
     }
 
     /// The name of the account with a number.
     pub fn account_name(&self, account: u32) -> Option<&str>
-        ensures { option_map (λ t. t.now) result ≡ account_name self.now.list account }
+        ensures { option_map (λ t. t.now) result ≡ account_name self.now.state account }
     {
-        self.operator.names.name(account)
+        self.names.name(account)
     }
 
     /// How many accounts have a name, which is how many there are.
     pub fn account_total(&self) -> u32
-        ensures { result ≡ length (account_names self.now.list) }
+        ensures { result ≡ length self.now.state.names }
     {
-        self.operator.names.count()
+        self.names.count()
     }
 
     /// The tariffs of the setup, `None` exactly where there is none.
     pub fn tariffs(&self) -> Option<&Tariffs>
-        ensures { option_copied result ≡ option_map (λ s. s.tariffs) (setup_of self.now.list) }
+        ensures { option_copied result ≡ option_map (λ s. s.tariffs) self.now.state.setup }
     {
-        match &self.operator.setup {
+        match &self.setup {
             Some(setup) => Some(&setup.tariffs),
             None => None,
         }
     }
 
-    /// The reference of the session of a consumer's charging id, `None` exactly where no accepted Create has them (TS 32.291, 6.1.3.3).
+    /// The reference of the session of a consumer's charging id, `None` exactly where no accepted Create has them
+    /// (TS 32.291, 6.1.3.3).
     pub fn reference(&self, consumer: &str, charging_id: u32) -> Option<u32>
-        ensures { result ≡ reference_of self.now.list (name consumer.now charging_id) }
+        ensures { result ≡ reference_of self.now.state (name consumer.now charging_id) }
     {
         self.keyed.reference(consumer, charging_id)
     }
 
     /// The least deadline of a quota of which something is left, `None` exactly where there is none.
     pub fn next_deadline(&self) -> Option<Moment>
-        ensures { IsLeast (money self.now.list).reservations result }
+        ensures { IsLeast self.now.state.money.reservations result }
     {
         self.accounts.next_deadline()
     }

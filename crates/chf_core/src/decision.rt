@@ -1,54 +1,38 @@
 //! Decisions, and the plans of fresh commands.
-ghost use Rattle.std.specs.Prelude.{◌≡◌, [], None};
-
 use crate::command::{Command, Outcome};
 use crate::names::NewName;
 use crate::refusal::ChfRefusal;
 use crate::session::Session;
-use crate::setup::ChfSetup;
-use crate::subscription::{Subscription, Sum};
-use crate::target::GroupAsk;
-use std::alloc::Global;
+use accounts::Moves;
+use std::collections::HashSet;
 
-/// What a command's commit moves into the machine's tables, made before it: copies of the command's texts and values.
+/// What a command's commit writes besides what the command says.
 #[derive(Debug, Drop)]
-pub(crate) struct Copies {
-    /// The subscriber or the id of a top-up.
-    pub(crate) key: String,
-    /// The name of an account or a consumer that is new.
-    pub(crate) name: Option<NewName>,
-    pub(crate) setup: Option<ChfSetup>,
-    pub(crate) subscription: Option<Subscription>,
-    pub(crate) sum: Option<Sum>,
-    /// The session that a Create opens.
-    pub(crate) session: Option<Session>,
-    /// The groups that ask.
-    pub(crate) asks: Vec<GroupAsk>,
+pub(crate) enum Change {
+    Setup,
+    /// The charging id in the request's key, the session that it opens, and the name of its consumer where that is new.
+    Charge {
+        charging_id: u32,
+        session: Option<Session>,
+        consumer: Option<NewName>,
+    },
+    /// The name of the account, where that is new, and the set of the barred groups.
+    Subscriber {
+        name: Option<NewName>,
+        groups: HashSet<u32>,
+    },
+    TopUp,
+    Expire,
 }
 
-impl Copies {
-    /// Of nothing; it takes no memory.
-    pub fn new(alloc: Global) -> Copies
-        ensures name { result.name ≡ None }
-    {
-        Copies {
-            key: String::new(alloc),
-            name: None,
-            setup: None,
-            subscription: None,
-            sum: None,
-            session: None,
-            asks: Vec::new(alloc),
-        }
-    }
-}
-
-/// A command that is fresh, and what it comes to. It is to be committed before anything else is decided (this product's own).
+/// A command that is fresh, what it comes to, and the moves of money that it makes. It is to be committed before
+/// anything else is decided (this product's own).
 #[derive(Debug, Drop)]
 pub struct Plan {
     pub(crate) command: Command,
     pub(crate) outcome: Outcome,
-    pub(crate) copies: Copies,
+    pub(crate) moves: Moves,
+    pub(crate) change: Change,
 }
 
 /// What is decided on a command (this product's own).

@@ -1,20 +1,102 @@
 //! What each command's commit writes. Nothing here takes memory.
-ghost use Rattle.std.specs.Prelude.{◌≡◌, ◌<◌};
+ghost use Rattle.std.specs.Prelude.{◌≡◌, ◌<◌, ◌+◌, ◌-◌, ◌^◌, ◌&&◌, Some, Option, ℕ, cond, is_some, length, option_map, vec_len, vec_capacity};
+ghost use Rattle.chf_core.specs.declared.key.Name.{Name as NameSeen};
+ghost use Rattle.chf_core.specs.declared.key.Key.{Key as KeySeen};
 ghost use Rattle.chf_core.specs.Operator.{number_in, with_name};
+ghost use Rattle.chf_core.specs.Sessions.{sessions_after, with_last, write_session, by_reference, name, same_session, id_of};
+ghost use Rattle.chf_core.specs.Keys.{key, key_eq};
 ghost use Rattle.chf_core.specs.Named.{IsProvided};
+ghost use Rattle.chf_core.specs.KeyTable.{kept_place, kept_reference, AreKnown, room};
 ghost use Rattle.chf_core.specs.After.{after};
-ghost use Rattle.chf_core.specs.Chf.{IsReady};
+ghost use Rattle.chf_core.specs.Machine.{IsReady, session_by};
 
+use crate::barred::Barred;
+use crate::chf::Chf;
 use crate::command::{Command, Outcome};
-use crate::commit::{enter_key, enter_session, reference_for};
+use crate::decision::{Change, Plan};
 use crate::kept_request::KeptRequest;
-use crate::machine::Chf;
+use crate::key_table::KeyTable;
+use crate::lookups::id_of;
 use crate::names::{Names, NewName};
-use crate::planned::{Change, Plan};
+use crate::numbered::{NumberedKey, NumberedName};
+use crate::session::Session;
 use crate::setup::ChfSetup;
 use crate::subscription::{Subscription, Sum};
 use accounts::Moves;
-use units::{List, Moment, Request, Text};
+use units::{List, Moment, Operation, Request, Text};
+
+fn set_last(session: &mut Session, last: u32, is_open: bool)
+    ensures { session.new ≡ with_last last is_open session.old }
+{
+    session.last = last;
+    session.is_open = is_open;
+}
+
+fn write_session(sessions: &mut Vec<Session>, reference: u32, last: u32, is_open: bool)
+    ensures { sessions.new.items ≡ write_session sessions.old.items reference last is_open (by_reference sessions.old.items reference) }
+{
+    if reference != 0 && reference as usize <= sessions.len() {
+        set_last(&mut sessions[reference as usize - 1], last, is_open);
+    }
+}
+
+// Enters a request in its session, which a Create opens.
+fn enter_session(sessions: &mut Vec<Session>, request: &Request, new: Option<Session>)
+    requires { vec_len sessions.old < vec_capacity sessions.old }
+    ensures { (account : Option ℕ) → new ≡ session_by request.now.operation request.now account → sessions.new.items ≡ sessions_after request.now.operation request.now account sessions.old.items }
+{
+    match request.operation {
+        Operation::Create => if let Some(session) = new {
+            sessions.push_reserved(session);
+        },
+        Operation::Update(reference) => write_session(sessions, reference, request.number, true),
+        Operation::Release(reference) => write_session(sessions, reference, request.number, false),
+    }
+}
+
+// The reference of a session that is opened.
+fn reference_for(sessions: &[Session], new: &Option<Session>) -> Option<u32>
+    requires { length sessions.now < 2 ^ 32 - 1 }
+    ensures { result ≡ option_map (λ _. length sessions.now + 1) new.now }
+{
+    match new {
+        Some(_) => Some(sessions.len() as u32 + 1),
+        None => None,
+    }
+}
+
+// Enters the key of a request, and the reference of the session that it opens.
+fn enter_key(
+    keyed: &mut KeyTable,
+    request: &Request,
+    charging_id: u32,
+    place: u32,
+    reference: Option<u32>,
+    new: Option<NewName>,
+)
+    requires known { AreKnown keyed.old }
+    requires room { 0 < room keyed.old }
+    requires provided { IsProvided keyed.old.consumers.list request.now.consumer new }
+    ensures places { (k : KeySeen) → kept_place keyed.new k ≡ cond (key_eq (key request.now.consumer charging_id request.now.number) k) (Some place) (kept_place keyed.old k) }
+    ensures references { (n : NameSeen) → kept_reference keyed.new n ≡ cond (is_some reference && same_session (name request.now.consumer (id_of request.now.charging_id)) n) reference (kept_reference keyed.old n) }
+    ensures consumers { keyed.new.consumers.list ≡ with_name keyed.old.consumers.list request.now.consumer (number_in keyed.old.consumers.list request.now.consumer) }
+    ensures known { AreKnown keyed.new }
+{
+    let consumer = keyed.number_for(request.consumer.as_str(), new);
+    let key = NumberedKey {
+        consumer,
+        charging_id,
+        number: request.number,
+    };
+    keyed.enter(request.consumer.as_str(), key, place);
+    if let Some(reference) = reference {
+        let name = NumberedName {
+            consumer,
+            charging_id: id_of(request.charging_id),
+        };
+        keyed.open(request.consumer.as_str(), name, reference);
+    }
+}
 
 // A name has a number from the first time on that it comes.
 fn number_name(names: &mut Names, name: &str, new: Option<NewName>)
@@ -95,13 +177,18 @@ impl Chf {
         requires { IsReady self.old (record { command = Command.Subscriber supi account barred; outcome = outcome; moves = moves; change = change }) }
         ensures { self.new.state ≡ after self.old.state (Command.Subscriber supi account barred) }
     {
-        let Change::Subscriber { name } = change else {
+        let Change::Subscriber { name, groups } = change else {
             unreachable!();
         };
         self.accounts.make_all(moves.as_slice());
         number_name(&mut self.names, account.as_str(), name);
-        self.subscribers
-            .put(supi.into_string(), Subscription { account, barred });
+        self.subscribers.put(
+            supi.into_string(),
+            Subscription {
+                account,
+                barred: Barred::with(barred, groups),
+            },
+        );
         self.count += 1;
     }
 

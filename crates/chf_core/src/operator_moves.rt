@@ -1,13 +1,30 @@
 //! The moves of money that the operator's commands make.
-ghost use Rattle.std.specs.Prelude.{◌≡◌, ◌∷◌, [], IfOk, None, Some};
+ghost use Rattle.std.specs.Prelude.{◌≡◌, ◌∷◌, ◌<◌, ◌-◌, ◌^◌, ◌↔◌, [], IfOk, IsTrue, None, Some, length};
 ghost use Rattle.accounts.specs.Making.{AreMakeable};
 ghost use Rattle.accounts.specs.declared.moves.Move.TheVariants.{Expired};
 ghost use Rattle.chf_core.specs.CommandMoves.{adding, topping};
+ghost use Rattle.chf_core.specs.Machine.{CanTopUp};
 
-use crate::fits::{may_add, may_topup};
 use accounts::{Accounts, Moves};
 use std::alloc::Global;
 use units::{Moment, OutOfMemory};
+
+// Whether the account is there, and so much more can be topped up on it.
+fn may_topup(accounts: &Accounts, account: u32, amount: u128) -> bool
+    ensures { IsTrue result ↔ CanTopUp accounts.now.state account amount }
+{
+    match accounts.topups(account) {
+        Some(topups) => topups.checked_add(amount).is_some(),
+        None => false,
+    }
+}
+
+// Whether one more account can have a number.
+fn may_add(accounts: &Accounts) -> bool
+    ensures { IsTrue result ↔ (length accounts.now.state.accounts < 2 ^ 32 - 1) }
+{
+    accounts.taken(4_294_967_294).is_none()
+}
 
 // One account more.
 fn one_account(alloc: Global, accounts: &Accounts) -> Result<Moves, OutOfMemory>

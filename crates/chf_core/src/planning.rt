@@ -1,25 +1,83 @@
 //! The plan of a fresh command, which makes all the memory that its commit needs.
-ghost use Rattle.std.specs.Prelude.{◌≡◌, ◌<◌, ◌≤◌, ◌-◌, ◌^◌, IfOk, OnOk, IsSome, Some, true};
+ghost use Rattle.std.specs.Prelude.{◌≡◌, ◌<◌, ◌≤◌, ◌-◌, ◌^◌, ◌==◌, IfOk, OnOk, IsSome, Some, true, false};
 ghost use Rattle.accounts.specs.Making.{AreMakeable};
 ghost use Rattle.chf_core.specs.declared.command.Command.TheVariants.{Setup, Charge, Subscriber, TopUp, Expire};
+ghost use Rattle.chf_core.specs.Sessions.{supi_of};
 ghost use Rattle.chf_core.specs.Keys.{key};
+ghost use Rattle.chf_core.specs.Named.{IsProvided};
 ghost use Rattle.chf_core.specs.Decisions.{is_fresh};
-ghost use Rattle.chf_core.specs.State.{account_for, key_of};
+ghost use Rattle.chf_core.specs.State.{key_of};
 ghost use Rattle.chf_core.specs.CommandMoves.{target_of, rating_of, moves_of, infos_for};
-ghost use Rattle.chf_core.specs.Deciding.{decision, answer_of, first_reply, created, outcome_of};
-ghost use Rattle.chf_core.specs.Chf.{Machine, IsReady, IsWorkedOut, Writes};
+ghost use Rattle.chf_core.specs.Deciding.{decision, outcome_of};
+ghost use Rattle.chf_core.specs.After.{is_setup};
+ghost use Rattle.chf_core.specs.Machine.{Machine, IsReady, IsWorkedOut, Writes, new_session, session_by};
 
+use crate::barred::set_of;
+use crate::chf::Chf;
 use crate::command::{Command, Outcome};
+use crate::decision::{Change, Plan};
 use crate::draft::{Effect, effect_of};
-use crate::machine::Chf;
+use crate::lookups::id_of;
+use crate::names::{Names, NewName};
 use crate::operator_moves::{adding, expiring, topping};
-use crate::plan::{name_for, session_opened};
-use crate::planned::{Change, Plan};
-use crate::reply::user_unknown;
+use crate::session::Session;
 use crate::setup::ChfSetup;
 use accounts::Moves;
 use std::alloc::Global;
-use units::{Answer, List, Moment, Operation, OutOfMemory, Reply, Request, Text, UnitInfo, copy};
+use units::{List, Moment, Operation, OutOfMemory, Request, Text, copy};
+
+// The copies of a name that has no number.
+fn name_for(alloc: Global, names: &Names, name: &Text) -> Result<Option<NewName>, OutOfMemory>
+    ensures { IfOk result (λ new. IsProvided names.now.list name.now new) }
+{
+    match names.find(name.as_str()) {
+        Some(_) => Ok(None),
+        None => Ok(Some(NewName::of(alloc, name.as_str())?)),
+    }
+}
+
+fn supi_copy(alloc: Global, supi: &Option<Text>) -> Result<Text, OutOfMemory>
+    ensures { IfOk result (λ t. t ≡ supi_of supi.now) }
+{
+    match supi {
+        Some(supi) => Ok(copy(supi)?),
+        None => Ok(Text::new(alloc)),
+    }
+}
+
+// The session that a Create opens.
+fn session_for(
+    alloc: Global,
+    request: &Request,
+    account: Option<u32>,
+) -> Result<Option<Session>, OutOfMemory>
+    ensures { IfOk result (λ s. s ≡ new_session request.now account) }
+{
+    match account {
+        Some(account) => Ok(Some(Session {
+            consumer: copy(&request.consumer)?,
+            charging_id: id_of(request.charging_id),
+            supi: supi_copy(alloc, &request.subscriber)?,
+            account,
+            last: request.number,
+            is_open: true,
+        })),
+        None => Ok(None),
+    }
+}
+
+fn session_opened(
+    alloc: Global,
+    request: &Request,
+    account: Option<u32>,
+) -> Result<Option<Session>, OutOfMemory>
+    ensures { IfOk result (λ s. s ≡ session_by request.now.operation request.now account) }
+{
+    match request.operation {
+        Operation::Create => session_for(alloc, request, account),
+        _ => Ok(None),
+    }
+}
 
 // The plan of a setup.
 fn plan_setup(alloc: Global, setup: &ChfSetup) -> Result<Plan, OutOfMemory>
@@ -39,8 +97,14 @@ impl Chf {
     // ---- of a charging data request
 
     // What a request makes of the accounts, and what is said of its groups.
-    fn effect(&self, alloc: Global, request: &Request) -> Result<Effect, OutOfMemory>
-        requires { self.now.state.count < 2 ^ 32 - 1 }
+    fn effect(
+        &self,
+        alloc: Global,
+        setup: &ChfSetup,
+        request: &Request,
+    ) -> Result<Effect, OutOfMemory>
+        requires setup { self.now.state.setup ≡ Some setup.now }
+        requires few { self.now.state.count < 2 ^ 32 - 1 }
         ensures moves { IfOk result (λ e. e.moves ≡ moves_of self.now.state (Charge request.now)) }
         ensures infos { IfOk result (λ e. e.infos ≡ infos_for (rating_of self.now.state request.now) request.now self.now.state.money (target_of self.now.state request.now)) }
         ensures makeable { IfOk result (λ e. AreMakeable e.moves self.now.state.money) }
@@ -49,8 +113,8 @@ impl Chf {
             Some(t) => effect_of(
                 alloc,
                 &self.accounts,
-                self.rates(),
-                self.grace(),
+                &setup.tariffs,
+                setup.grace,
                 self.barred(request),
                 t,
                 request,
@@ -59,58 +123,6 @@ impl Chf {
                 moves: Moves::new(alloc),
                 infos: List::new(alloc),
             }),
-        }
-    }
-
-    fn answer_of(&self, alloc: Global, request: &Request, units: List<UnitInfo>) -> Answer
-        requires { units ≡ infos_for (rating_of self.now.state request.now) request.now self.now.state.money (target_of self.now.state request.now) }
-        ensures { result ≡ answer_of self.now.state request.now }
-    {
-        Answer {
-            number: request.number,
-            stamp: request.stamp,
-            failover: self.failover(),
-            handling: None,
-            triggers: List::new(alloc),
-            units,
-        }
-    }
-
-    fn created(
-        &self,
-        alloc: Global,
-        request: &Request,
-        answer: Answer,
-    ) -> Result<Reply, OutOfMemory>
-        requires few { self.now.state.count < 2 ^ 32 - 1 }
-        requires answer { answer ≡ answer_of self.now.state request.now }
-        ensures { IfOk result (λ r. r ≡ created self.now.state request.now (account_for self.now.state request.now.subscriber)) }
-    {
-        match self.account_for(&request.subscriber) {
-            Some(_) => Ok(Reply::Created {
-                reference: self.next_reference(),
-                answer,
-            }),
-            None => user_unknown(alloc),
-        }
-    }
-
-    // The first reply to a request, with what is said of its groups.
-    fn first_reply(
-        &self,
-        alloc: Global,
-        request: &Request,
-        units: List<UnitInfo>,
-    ) -> Result<Reply, OutOfMemory>
-        requires few { self.now.state.count < 2 ^ 32 - 1 }
-        requires units { units ≡ infos_for (rating_of self.now.state request.now) request.now self.now.state.money (target_of self.now.state request.now) }
-        ensures { IfOk result (λ r. r ≡ first_reply self.now.state request.now) }
-    {
-        let answer = self.answer_of(alloc, request, units);
-        match request.operation {
-            Operation::Create => self.created(alloc, request, answer),
-            Operation::Update(_) => Ok(Reply::Updated { answer }),
-            Operation::Release(_) => Ok(Reply::Released),
         }
     }
 
@@ -138,12 +150,14 @@ impl Chf {
         request: &Request,
         charging_id: u32,
     ) -> Result<Plan, OutOfMemory>
+        requires begun { (self.now.state.count == 0) ≡ false }
         requires few { self.now.state.count < 2 ^ 32 - 1 }
         requires key { key_of self.now.state request.now ≡ Some (key request.now.consumer charging_id request.now.number) }
         ensures { IfOk result (IsWorkedOut self.now (Charge request.now)) }
     {
-        let Effect { moves, infos } = self.effect(alloc, request)?;
-        let reply = self.first_reply(alloc, request, infos)?;
+        let setup = self.set_up();
+        let Effect { moves, infos } = self.effect(alloc, setup, request)?;
+        let reply = self.first_reply(alloc, setup, request, infos)?;
         let change = self.change_of(alloc, request, charging_id)?;
         Ok(Plan {
             command: Command::Charge {
@@ -156,6 +170,7 @@ impl Chf {
     }
 
     fn plan_charge(&self, alloc: Global, request: &Request) -> Result<Plan, OutOfMemory>
+        requires begun { (self.now.state.count == 0) ≡ false }
         requires few { self.now.state.count < 2 ^ 32 - 1 }
         requires key { IsSome (key_of self.now.state request.now) }
         ensures { IfOk result (IsWorkedOut self.now (Charge request.now)) }
@@ -188,6 +203,7 @@ impl Chf {
             moves,
             change: Change::Subscriber {
                 name: name_for(alloc, &self.names, account)?,
+                groups: set_of(alloc, barred.as_slice())?,
             },
         })
     }
@@ -229,6 +245,7 @@ impl Chf {
 
     // All that comes of a command, worked out.
     fn work_out(&self, alloc: Global, command: &Command) -> Result<Plan, OutOfMemory>
+        requires order { is_setup command.now ≡ (self.now.state.count == 0) }
         requires few { self.now.state.count < 2 ^ 32 - 1 }
         requires fresh { is_fresh (decision self.now.state command.now) ≡ true }
         ensures { IfOk result (IsWorkedOut self.now command.now) }
@@ -274,6 +291,7 @@ impl Chf {
 
     /// The plan of a command that is fresh.
     pub(crate) fn plan(&mut self, alloc: Global, command: &Command) -> Result<Plan, OutOfMemory>
+        requires order { is_setup command.now ≡ (self.old.state.count == 0) }
         requires few { self.old.state.count < 2 ^ 32 - 1 }
         requires fresh { is_fresh (decision self.old.state command.now) ≡ true }
         ensures same { self.new.state ≡ self.old.state }

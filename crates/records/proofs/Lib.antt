@@ -1,3 +1,14 @@
 pub mod Places
 pub mod Summed
 pub mod Added
+pub mod Rising
+pub mod Sessions
+pub mod Found
+pub mod Entered
+pub mod Swept
+pub mod Begun
+pub mod Once
+pub mod Pushed
+pub mod Utf
+pub mod Over
+pub mod Converting

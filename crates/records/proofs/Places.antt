@@ -144,3 +144,8 @@ on_ok (Err e) f h = tt
 pub all_places : (gs : List GroupSeen) (es : List UnitUsage) → ((k : ℕ) (d : UnitUsage) → k < length es → HasPlaces gs (get_or es k d)) → HaveAllPlaces gs es
 all_places gs [] h = tt
 all_places gs (e ∷ es) h = (h 0 e (omega arith), all_places gs es (λ k d lt. h (suc k) d (omega arith)))
+
+-- groups of which no entry is seen
+pub none_seen : (gs : List GroupSeen) → usage_seen gs ≡ [] → gs ≡ []
+none_seen [] h = refl
+none_seen (g ∷ gs) h = absurd cc

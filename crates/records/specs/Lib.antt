@@ -2,3 +2,11 @@ pub mod Usage
 pub mod Groups
 pub mod Sums
 pub mod Closing
+pub mod Book
+pub mod Seen
+pub mod Named
+pub mod Once
+pub mod Fields
+pub mod Written
+pub mod Grammar
+pub mod Reading

@@ -70,6 +70,7 @@ fn make_all_places(groups: &mut Vec<Group>, used: &[UnitUsage]) -> Result<(), Al
     ensures capacity { vec_capacity groups.new ≡ vec_capacity groups.old }
     ensures len { vec_len groups.new ≡ vec_len groups.old }
     ensures places { OnOk result (HaveAllPlaces groups.new.items used.now) }
+    ensures none { groups.old.items ≡ [] → groups.new.items ≡ [] }
 {
     for entry in used {
         make_places(groups, entry.group, entry.used.len())?;
@@ -199,6 +200,7 @@ impl Unclosed {
         requires apart { AreApart used.now }
         ensures room { OnOk result (HasRoom self.new used.now) }
         ensures kept { self.new.kept ≡ self.old.kept }
+        ensures none { self.old.groups ≡ [] → self.new.groups ≡ [] }
     {
         self.groups.reserve(used.len())?;
         self.usage.reserve(self.groups.len() + used.len())?;
@@ -231,8 +233,15 @@ impl Unclosed {
         first_reached(limits, self.sums, seconds)
     }
 
+    /// Its session.
+    pub fn session(&self) -> u32
+        ensures { result ≡ self.now.kept.session }
+    {
+        self.session
+    }
+
     /// Its number within the session.
-    pub(crate) fn sequence(&self) -> u32
+    pub fn sequence(&self) -> u32
         ensures { result ≡ self.now.kept.sequence }
     {
         self.sequence

@@ -43,8 +43,8 @@ fn next_line(line: Line, byte: u8) -> Line
     }
 }
 
-/// Where bytes end, of which the first so many end here.
-pub fn follow(bytes: &[u8], had: usize, line: Line) -> Line
+// The same byte by byte.
+fn follow_each(bytes: &[u8], had: usize, line: Line) -> Line
     requires within { had ≤ length bytes.now }
     requires ends { EndsIn had (take had bytes.now) line }
     ensures { EndsIn had bytes.now result }
@@ -54,6 +54,19 @@ pub fn follow(bytes: &[u8], had: usize, line: Line) -> Line
         line = next_line(line, *byte);
     }
     line
+}
+
+/// Where bytes end, of which the first so many end here; where that is unknown, none of them is looked at.
+pub fn follow(bytes: &[u8], had: usize, line: Line) -> Line
+    requires within { had ≤ length bytes.now }
+    requires ends { EndsIn had (take had bytes.now) line }
+    ensures { EndsIn had bytes.now result }
+{
+    if is_known(line) {
+        follow_each(bytes, had, line)
+    } else {
+        Line::Unknown
+    }
 }
 
 /// Where bytes end of which nothing is known but what they are: only an end behind a line feed is looked for.

@@ -1,7 +1,6 @@
 use Rattle.std.proofs.Common.{◌≡◌, drop, reverse}
-use Rattle.chf_core.specs.Operator.{account_names}
 use Rattle.charging.specs.AccountLines.{accounts_by_name, in_order}
 use Rattle.charging.proofs.account_lines.accounts_by_name.Given as goal
 
 abbrev pub invariant-loop-account : goal.invariant-loop-account
-invariant-loop-account l = in_order l.entries.entries l.account (drop l.account (reverse (account_names l.chf.list))) ≡ accounts_by_name l.chf.list
+invariant-loop-account l = in_order l.entries.entries l.account (drop l.account (reverse l.chf.state.names)) ≡ accounts_by_name l.chf.state

@@ -1,4 +1,4 @@
-use Rattle.std.proofs.Common.{rules, ◌≡◌, sym, ap, ◌∙◌, ltb}
+use Rattle.std.proofs.Common.{rules, sym, ap, ◌∙◌, ltb}
 use Rattle.std.proofs.lemmas.List.Sorted.{IsPartitionPoint-from_clause, IsPartitionedBy-ltb}
 use Rattle.chf_core.specs.declared.kept_request.KeptRequest.{KeptRequest}
 use Rattle.chf_core.specs.Placed.{if_at}

@@ -1,18 +1,26 @@
-use Rattle.std.proofs.Common.{◌≡◌, ◌<◌, reverse, length, subst, sym, arith}
-use Rattle.std.proofs.lemmas.List.{length-reverse}
+use Rattle.std.proofs.Common.{rules, ◌≡◌, ◌+◌, Some, refl, sym, ap, subst, arith}
 use Rattle.chf_core.specs.declared.command.Command.TheVariants.{Setup}
-use Rattle.chf_core.specs.Machine.{Machine, IsReady}
-use Rattle.chf_core.specs.Caches.{machine}
-use Rattle.chf_core.proofs.Kept.{kept_more}
+use Rattle.chf_core.specs.After.{after}
+use Rattle.chf_core.specs.Owners.{IsOwned}
+use Rattle.chf_core.specs.Machine.{Machine}
+use Rattle.chf_core.specs.Caches.{state_seen}
+use Rattle.chf_core.proofs.OwnedState.{owned_after}
+use Rattle.chf_core.proofs.PlacedRequests.{below_next}
 use Rattle.chf_core.proofs.chf.Chf.commit_setup.Goals as goal
 
 pub invariant_of-self : goal.invariant_of-self
 invariant_of-self c =
     let t = c.self.inside in
-    let k = c.self.invariant in
-    let ready : IsReady (machine t) (record { command = Setup c.args.setup; outcome = c.args.outcome; copies = c.args.copies }) = subst (λ (v : Machine). IsReady v (record { command = Setup c.args.setup; outcome = c.args.outcome; copies = c.args.copies })) (sym c.self.view_is) c.requires in
-    let size = length-reverse t.commands.items in
-    rw (c.push_reserved.ensures.items, c.push_reserved-2.ensures.items)
-    (kept_more t.commands.items (Setup c.args.setup) t.outcomes.items c.args.outcome _ t.keyed t.sessions.items t.accounts k.told_are ready.fresh (omega (arith, ready.places))
-    (record { setup = ready.copied; none = k.operator.none; names = k.operator.names; subscribers = k.operator.subscribers; topups = k.operator.topups })
-    (record { places = k.keyed.places; references = k.keyed.references; known = k.keyed.known; consumers = k.keyed.consumers }) k.sessions k.money)
+    let i = c.self.invariant in
+    let new_is : state_seen (record t { setup = Some c.args.setup; count = t.count + 1 }) ≡ after c.args.self.now.state (Setup c.args.setup) = search rules in
+    record {
+      set_up = λ e. refl;
+      unbarred = i.unbarred;
+      places = i.places;
+      references = i.references;
+      known = i.known;
+      ascending = i.ascending;
+      below = below_next t.count t.requests.items i.below;
+      owned = subst IsOwned (sym new_is) (owned_after c.args.self.now.state (Setup c.args.setup) (subst IsOwned (ap (λ (x : Machine). x.state) c.self.view_is) i.owned));
+      few = let few = i.few in omega arith;
+    }

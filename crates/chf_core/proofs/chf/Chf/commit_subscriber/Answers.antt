@@ -1,29 +1,26 @@
-use Rattle.std.proofs.Common.{◌≡◌, ◌<◌, reverse, length, subst, sym, ap, ◌∙◌, cond, arith}
-use Rattle.std.proofs.lemmas.List.{length-reverse}
+use Rattle.std.proofs.Common.{rules, ◌≡◌, ◌==◌, ◌+◌, sym, ap, ◌∙◌, subst, arith}
 use Rattle.chf_core.specs.declared.command.Command.TheVariants.{Subscriber}
-use Rattle.chf_core.specs.Operator.{name_eq, number_in, with_name}
-use Rattle.chf_core.specs.Money.{with_account}
-use Rattle.chf_core.specs.Machine.{Machine, IsReady}
-use Rattle.chf_core.specs.Caches.{machine}
-use Rattle.chf_core.proofs.Kept.{kept_more}
+use Rattle.chf_core.specs.After.{after}
+use Rattle.chf_core.specs.Owners.{IsOwned}
+use Rattle.chf_core.specs.Machine.{Machine}
+use Rattle.chf_core.specs.Caches.{state_seen}
+use Rattle.chf_core.proofs.OwnedState.{owned_after}
+use Rattle.chf_core.proofs.PlacedRequests.{below_next}
 use Rattle.chf_core.proofs.chf.Chf.commit_subscriber.Goals as goal
 
 pub invariant_of-self : goal.invariant_of-self
 invariant_of-self c =
     let t = c.self.inside in
-    let k = c.self.invariant in
-    let name = c.args.account in
-    let ready : IsReady (machine t) (record { command = Subscriber c.args.supi name c.args.barred; outcome = c.args.outcome; copies = c.args.copies }) =
-    subst (λ (v : Machine). IsReady v (record { command = Subscriber c.args.supi name c.args.barred; outcome = c.args.outcome; copies = c.args.copies })) (sym c.self.view_is) c.requires in
-    let size = length-reverse t.commands.items in
-    rw (c.push_reserved.ensures.items, c.push_reserved-2.ensures.items)
-    (kept_more t.commands.items (Subscriber c.args.supi name c.args.barred) t.outcomes.items c.args.outcome _ t.keyed t.sessions.items c.name_account.new.accounts k.told_are ready.fresh (omega (arith, ready.places))
-    (record {
-      setup = k.operator.setup;
-      none = k.operator.none;
-      names = c.name_account.ensures.names ∙ (λ i. with_name (k.operator.names i) (c.as_str.ensures i) (number_in (k.operator.names i) (c.as_str.ensures i)));
-      subscribers = λ x. c.put.ensures x ∙ (λ i. cond (name_eq (ready.copied.0 i) x) (ready.copied.1.0 i) (k.operator.subscribers x i));
-      topups = k.operator.topups;
-    })
-    (record { places = k.keyed.places; references = k.keyed.references; known = k.keyed.known; consumers = k.keyed.consumers }) k.sessions
-    (c.name_account.ensures.accounts ∙ (λ i. with_account (k.money i) (number_in (k.operator.names i) (c.as_str.ensures i)))))
+    let i = c.self.invariant in
+    let new_is : state_seen (record t { count = t.count + 1; names = c.number_name.new.names; subscribers = c.put.new.self; accounts = c.make_all.new.self }) ≡ after c.args.self.now.state (Subscriber c.args.supi c.args.account c.args.barred) = search rules in
+    record {
+      set_up = λ e. i.set_up (ap (λ (m : Machine). m.state.count == 0) c.self.view_is ∙ sym c.requires.order);
+      unbarred = i.unbarred;
+      places = i.places;
+      references = i.references;
+      known = i.known;
+      ascending = i.ascending;
+      below = below_next t.count t.requests.items i.below;
+      owned = subst IsOwned (sym new_is) (owned_after c.args.self.now.state (Subscriber c.args.supi c.args.account c.args.barred) (subst IsOwned (ap (λ (x : Machine). x.state) c.self.view_is) i.owned));
+      few = let few = i.few in omega arith;
+    }

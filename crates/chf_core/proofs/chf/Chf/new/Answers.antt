@@ -1,15 +1,27 @@
-use Rattle.std.proofs.Common.{◌≡◌, refl, arith, []}
+use Rattle.std.proofs.Common.{◌≡◌, List, length, map as each, reverse, find, option_map, Some, IfSome, sym, ap, ◌∙◌, subst, arith}
+use Rattle.std.specs.FinMap as map
+use Rattle.accounts.specs.Reservations.{key_cmp}
+use Rattle.chf_core.specs.declared.kept_request.KeptRequest.{KeptRequest}
+use Rattle.chf_core.specs.declared.session.Session.{Session}
+use Rattle.chf_core.specs.Keys.{key_eq}
+use Rattle.chf_core.specs.Placed.{AreAscending, AreBelow}
+use Rattle.chf_core.specs.Owners.{IsOwned}
+use Rattle.chf_core.specs.State.{State, nothing_yet, session_at, kept_key, name_of, reference_in}
 use Rattle.chf_core.proofs.chf.Chf.new.Goals as goal
 
 pub invariant_of-result : goal.invariant_of-result
 invariant_of-result c =
-    let o = c.new-3.ensures in
-    let k = c.new-4.ensures in
-    rw (c.new.ensures.items, c.new-2.ensures.items, c.new-5.ensures.items) (record {
-      told_are = refl;
-      operator = record { setup = o.setup; none = o.none; names = o.names; subscribers = o.subscribers; topups = o.topups };
-      keyed = record { places = k.places; references = k.references; known = k.known; consumers = k.consumers };
-      sessions = refl;
-      money = c.new-6.ensures;
-      few = omega arith;
-    })
+    let k = c.new-7.ensures in
+    let sessions = c.new-4.ensures.items in
+    let requests = c.new-6.ensures.items in
+    record {
+      set_up = λ e. absurd (cc);
+      unbarred = c.none.ensures;
+      places = λ x. k.places x ∙ sym (ap (λ (l : List KeptRequest). option_map (λ (r : KeptRequest). r.place) (find (λ r. key_eq (kept_key r) x) l)) requests);
+      references = λ n. k.references n ∙ sym (ap (λ (l : List Session). reference_in (reverse (each name_of l)) n) sessions);
+      known = k.known;
+      ascending = subst (AreAscending 0) (sym requests) tt;
+      below = subst (AreBelow 0) (sym requests) tt;
+      owned = subst (λ (s : State). IsOwned s) (sym (λ i. record nothing_yet { sessions = sessions i; money = c.new-5.ensures i })) (λ x. subst (λ o. IfSome o (λ r. option_map (λ (z : Session). z.account) (session_at nothing_yet x.session) ≡ Some r.account)) (sym (map.get-empty key_cmp x)) tt);
+      few = let e = ap length sessions in omega arith;
+    }

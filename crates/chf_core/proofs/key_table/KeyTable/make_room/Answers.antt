@@ -1,4 +1,3 @@
-use Rattle.std.proofs.Common.{◌≡◌}
 use Rattle.chf_core.proofs.Consumers.{same_keyed}
 use Rattle.chf_core.proofs.key_table.KeyTable.make_room.Goals as goal
 

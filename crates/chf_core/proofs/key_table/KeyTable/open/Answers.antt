@@ -1,5 +1,3 @@
-use Rattle.std.proofs.Common.{◌≡◌, ◌<◌, arith, ap, sym, ◌∙◌}
-use Rattle.std.specs.HashMap.{spare}
 use Rattle.chf_core.proofs.Consumers.{reference_entered, name_known}
 use Rattle.chf_core.proofs.Results.{from_ok}
 use Rattle.chf_core.proofs.key_table.KeyTable.open.Goals as goal

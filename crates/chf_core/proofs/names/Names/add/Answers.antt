@@ -1,5 +1,5 @@
 use Rattle.std.proofs.Common.{◌≡◌, ◌<◌, arith, ap, sym, ◌∙◌, length, cond, Some, reverse, map, string_bytes, ℕ, List}
-use Rattle.std.specs.HashMap.{get_by_text, spare}
+use Rattle.std.specs.HashMap.{spare}
 use Rattle.std.proofs.lemmas.Map.Text.{hash_map_updates_text}
 use Rattle.chf_core.specs.Named.{Named}
 use Rattle.chf_core.specs.Operator.{name_eq, number_in}

@@ -1,4 +1,4 @@
-use Rattle.std.proofs.Common.{◌≡◌, ap, sym, ◌∙◌, reverse, map, string_bytes, arith}
+use Rattle.std.proofs.Common.{ap, sym, ◌∙◌, reverse, map, string_bytes, arith}
 use Rattle.chf_core.specs.Operator.{number_in}
 use Rattle.chf_core.proofs.NameLists.{same_text}
 use Rattle.chf_core.proofs.names.Names.make_room.Goals as goal

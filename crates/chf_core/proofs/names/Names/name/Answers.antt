@@ -1,4 +1,4 @@
-use Rattle.std.proofs.Common.{◌≡◌, ap, ◌∙◌, slice_get, option_map, reverse, string_bytes}
+use Rattle.std.proofs.Common.{ap, ◌∙◌, slice_get, option_map, reverse, string_bytes}
 use Rattle.chf_core.specs.Named.{Named}
 use Rattle.chf_core.proofs.NameLists.{names_at}
 use Rattle.chf_core.proofs.names.Names.name.Goals as goal

@@ -1,0 +1,19 @@
+use Rattle.std.proofs.Common.{◌∙◌, ℕ, sym, ap, subst, vec_len}
+use Rattle.records.specs.Seen.{numbers_of, AreRising, SequencesAreWithin}
+use Rattle.records.proofs.book.Book.make_room.Goals as goal
+
+pub invariant_of-self-in_err-make_room_of : goal.invariant_of-self-in_err-make_room_of
+invariant_of-self-in_err-make_room_of c = (
+  c.reserve.ensures.items ∙ c.self.invariant.0 ∙ ap numbers_of (sym c.reserve-2.ensures.items) ∙ sym c.make_room_of.ensures.numbers,
+  subst AreRising (sym c.reserve.ensures.items) c.self.invariant.1,
+  c.make_room_of.ensures.sequences _ (subst (λ (m : ℕ). SequencesAreWithin m c.reserve-2.new.self.items) (sym c.reserve-3.ensures.len) (subst (SequencesAreWithin (vec_len c.self.inside.closed)) (sym c.reserve-2.ensures.items) c.self.invariant.2)),
+  c.make_room.ensures.none c.self.invariant.3,
+)
+
+pub invariant_of-self-2 : goal.invariant_of-self-2
+invariant_of-self-2 c = (
+  c.reserve.ensures.items ∙ c.self.invariant.0 ∙ ap numbers_of (sym c.reserve-2.ensures.items) ∙ sym c.make_room_of.ensures.numbers,
+  subst AreRising (sym c.reserve.ensures.items) c.self.invariant.1,
+  c.make_room_of.ensures.sequences _ (subst (λ (m : ℕ). SequencesAreWithin m c.reserve-2.new.self.items) (sym c.reserve-3.ensures.len) (subst (SequencesAreWithin (vec_len c.self.inside.closed)) (sym c.reserve-2.ensures.items) c.self.invariant.2)),
+  c.make_room.ensures.none c.self.invariant.3,
+)

@@ -1,0 +1,24 @@
+use Rattle.std.proofs.Common.{refl}
+use Rattle.records.specs.Book.{added}
+use Rattle.records.proofs.Found as f
+use Rattle.records.proofs.Sessions as s
+use Rattle.records.proofs.book.add_to.Goals as goal
+
+pub add-requires-clause-room : goal.add-requires-clause-room
+add-requires-clause-room c = f.room _ _ _ _ _ (f.has-at _ _ _ _ _ c.requires.same c.requires.rising c.in-Some.ensures c.index-sessions-at.is) c.requires.room
+
+pub add-requires-clause-sequence : goal.add-requires-clause-sequence
+add-requires-clause-sequence c = let h = f.has-at _ _ _ _ _ c.requires.same c.requires.rising c.in-Some.ensures c.index-sessions-at.is in s.within-at _ _ _ _ c.requires.sequences h.within h.at
+
+pub returns-in-Some-clause-added : goal.returns-in-Some-clause-added
+returns-in-Some-clause-added c =
+    f.changed _ _ _ _ c.add.new.self _ _ (added c.args.limits.now c.args.used c.args.stamp c.args.last) (f.has-at _ _ _ _ _ c.requires.same c.requires.rising c.in-Some.ensures c.index-sessions-at.is) c.add.ensures.added c.add.ensures.session
+
+pub returns-in-Some-clause-numbers : goal.returns-in-Some-clause-numbers
+returns-in-Some-clause-numbers c = f.numbers _ _ _ _ c.add.new.self _ (f.has-at _ _ _ _ _ c.requires.same c.requires.rising c.in-Some.ensures c.index-sessions-at.is) c.add.ensures.session
+
+pub returns-in-Some-clause-sequences : goal.returns-in-Some-clause-sequences
+returns-in-Some-clause-sequences c = s.within-set _ _ _ _ c.add.new.self c.add.ensures.kept c.requires.sequences c.add.ensures.sequence
+
+pub returns-in_default-clause-added : goal.returns-in_default-clause-added
+returns-in_default-clause-added c = s.none_changed _ _ _ (added c.args.limits.now c.args.used c.args.stamp c.args.last) (f.missing _ _ _ c.requires.same c.in_default.ensures) refl

@@ -1,0 +1,387 @@
+//! A book of records.
+ghost use Rattle.std.specs.Prelude.{◌≡◌, ◌≤◌, ◌<◌, ◌+◌, ◌-◌, ◌^◌, ℕ, List as Listed, [], ◌∷◌, length, option_map, IfSome, IfOk, OnOk, OnErr, IsOk, IsSome, MatchOption, MatchResult, None, Some, vec_len, vec_capacity, slice_index, slice_set};
+ghost use Rattle.std.specs.Option.{option_copied};
+ghost use Rattle.std.specs.List.{insert};
+ghost use Rattle.units.specs.declared.request.UnitUsage.{UnitUsage as Entry};
+ghost use Rattle.records.specs.declared.filing.Filing.TheVariants.{Begun, Added, Ended, ClosedAll};
+ghost use Rattle.records.specs.Closing.{opened};
+ghost use Rattle.records.specs.Book.{no_records, session_of, open_of, after, all_swept, with_one, with_open, added, ended, entered, reopened};
+ghost use Rattle.records.specs.Groups.{HasRoom, AreApart};
+ghost use Rattle.records.specs.Named.{named_as};
+ghost use Rattle.records.specs.Seen.{session_seen, sessions_seen, numbers_of, AreRising, SequenceIsWithin, SequencesAreWithin, kept_of, records_seen, HasRoomIn, HasRoomFor, IsThere, IsMissing, IsGap};
+
+use crate::limits::RecordLimits;
+use crate::record::{Kept, Record};
+use crate::session::SessionKept;
+use crate::unclosed::Unclosed;
+use std::alloc::{AllocError, Global};
+use std::marker::Model;
+use std::mem;
+use units::{List, Moment, OutOfMemory, Text, UnitUsage, copy};
+
+/// The records of all sessions, closed and not closed (TS 32.255, 5.2.3; that they stand in memory is this product's own).
+#[derive(Drop)]
+pub struct Book {
+    alloc: Global,
+    limits: RecordLimits,
+    // In order.
+    numbers: Vec<u32>,
+    sessions: Vec<SessionKept>,
+    closed: Vec<Kept>,
+    // A record with the room of the session that begins next.
+    next: Unclosed,
+}
+
+impl Model for Book {
+    ghost use Rattle.std.specs.Prelude.{◌≡◌, ◌-◌, [], length, min, vec_len, vec_capacity};
+    ghost use Rattle.records.specs.Seen.{BookSeen, sessions_seen, numbers_of, AreRising, SequencesAreWithin};
+
+    ghost Value = { BookSeen };
+
+    ghost view = { λ b. record { limits = b.limits; records = record { sessions = sessions_seen b.sessions.items; closed = b.closed.items }; kept = b.sessions.items; next = b.next; places = min (vec_capacity b.numbers - vec_len b.numbers) (vec_capacity b.sessions - vec_len b.sessions); spare = vec_capacity b.closed - vec_len b.closed } };
+
+    ghost invariant = { λ b. (b.numbers.items ≡ numbers_of b.sessions.items) × AreRising b.numbers.items × SequencesAreWithin (vec_len b.closed) b.sessions.items × (b.next.groups ≡ []) };
+}
+
+// Where a number is in rising ones, or where it would go.
+fn search(numbers: &[u32], number: u32) -> Result<usize, usize>
+    requires { AreRising numbers.now }
+    ensures { MatchResult result (IsThere numbers.now number) (IsGap numbers.now number) }
+{
+    numbers.binary_search(&number)
+}
+
+// The place of a number in rising ones; none exactly where it is not among them.
+fn place(numbers: &[u32], number: u32) -> Option<usize>
+    requires { AreRising numbers.now }
+    ensures { MatchOption result (IsMissing numbers.now number) (IsThere numbers.now number) }
+{
+    match search(numbers, number) {
+        Ok(at) => Some(at),
+        Err(_) => None,
+    }
+}
+
+// The session of a number.
+fn found<'a>(numbers: &[u32], sessions: &'a [SessionKept], number: u32) -> Option<&'a SessionKept>
+    requires same { numbers.now ≡ numbers_of sessions.now }
+    requires rising { AreRising numbers.now }
+    ensures { option_copied result ≡ kept_of sessions.now number }
+{
+    match place(numbers, number) {
+        Some(at) => Some(&sessions[at]),
+        None => None,
+    }
+}
+
+// Containers come to the session of a number.
+fn add_to(
+    alloc: Global,
+    limits: &RecordLimits,
+    numbers: &[u32],
+    sessions: &mut [SessionKept],
+    closed: &mut Vec<Kept>,
+    number: u32,
+    used: List<UnitUsage>,
+    stamp: Moment,
+    last: bool,
+)
+    requires same { numbers.now ≡ numbers_of sessions.old }
+    requires rising { AreRising numbers.now }
+    requires room { IfSome (kept_of sessions.old number) (λ z. IfSome z.unclosed (λ u. HasRoom u used)) }
+    requires spare { vec_len closed.old < vec_capacity closed.old }
+    requires few { vec_len closed.old < 2 ^ 32 - 2 }
+    requires sequences { SequencesAreWithin (vec_len closed.old) sessions.old }
+    ensures added { with_one number (records_seen sessions.old closed.old.items) (added limits.now used stamp last (open_of (sessions_seen sessions.old) number) closed.old.items) ≡ records_seen sessions.new closed.new.items }
+    ensures numbers { numbers_of sessions.new ≡ numbers_of sessions.old }
+    ensures sequences { SequencesAreWithin (vec_len closed.new) sessions.new }
+    ensures capacity { vec_capacity closed.new ≡ vec_capacity closed.old }
+    ensures len { vec_len closed.new ≤ vec_len closed.old + 1 }
+{
+    if let Some(at) = place(numbers, number) {
+        sessions[at].add(alloc, limits, closed, used, stamp, last);
+    }
+}
+
+// The session of a number ends.
+fn end_of(
+    numbers: &[u32],
+    sessions: &mut [SessionKept],
+    closed: &mut Vec<Kept>,
+    number: u32,
+    cause: u8,
+    stamp: Moment,
+)
+    requires same { numbers.now ≡ numbers_of sessions.old }
+    requires rising { AreRising numbers.now }
+    requires spare { vec_len closed.old < vec_capacity closed.old }
+    requires few { vec_len closed.old < 2 ^ 32 - 2 }
+    requires sequences { SequencesAreWithin (vec_len closed.old) sessions.old }
+    ensures ended { with_one number (records_seen sessions.old closed.old.items) (ended cause stamp (open_of (sessions_seen sessions.old) number) closed.old.items) ≡ records_seen sessions.new closed.new.items }
+    ensures numbers { numbers_of sessions.new ≡ numbers_of sessions.old }
+    ensures sequences { SequencesAreWithin (vec_len closed.new) sessions.new }
+    ensures capacity { vec_capacity closed.new ≡ vec_capacity closed.old }
+    ensures len { vec_len closed.new ≤ vec_len closed.old + 1 }
+{
+    if let Some(at) = place(numbers, number) {
+        sessions[at].end(closed, cause, stamp);
+    }
+}
+
+// Makes room for entries of the session of a number, where it is there.
+fn make_room_in(
+    numbers: &[u32],
+    sessions: &mut [SessionKept],
+    number: u32,
+    used: &[UnitUsage],
+) -> Result<(), AllocError>
+    requires same { numbers.now ≡ numbers_of sessions.old }
+    requires rising { AreRising numbers.now }
+    requires apart { AreApart used.now }
+    ensures room { OnOk result (IfSome (kept_of sessions.new number) (λ z. IfSome z.unclosed (λ u. HasRoom u used.now))) }
+    ensures kept { sessions_seen sessions.new ≡ sessions_seen sessions.old }
+    ensures numbers { numbers_of sessions.new ≡ numbers_of sessions.old }
+    ensures sequences { (n : ℕ) → SequencesAreWithin n sessions.old → SequencesAreWithin n sessions.new }
+{
+    match place(numbers, number) {
+        Some(at) => sessions[at].make_room(used),
+        None => Ok(()),
+    }
+}
+
+// The same of all sessions, with the room for more of them.
+fn make_room_of(
+    numbers: &[u32],
+    sessions: &mut Vec<SessionKept>,
+    number: u32,
+    used: &[UnitUsage],
+) -> Result<(), AllocError>
+    requires same { numbers.now ≡ numbers_of sessions.old.items }
+    requires rising { AreRising numbers.now }
+    requires apart { AreApart used.now }
+    ensures room { OnOk result (IfSome (kept_of sessions.new.items number) (λ z. IfSome z.unclosed (λ u. HasRoom u used.now))) }
+    ensures kept { sessions_seen sessions.new.items ≡ sessions_seen sessions.old.items }
+    ensures numbers { numbers_of sessions.new.items ≡ numbers_of sessions.old.items }
+    ensures sequences { (n : ℕ) → SequencesAreWithin n sessions.old.items → SequencesAreWithin n sessions.new.items }
+    ensures len { vec_len sessions.new ≡ vec_len sessions.old }
+    ensures capacity { vec_capacity sessions.new ≡ vec_capacity sessions.old }
+{
+    make_room_in(numbers, sessions, number, used)
+}
+
+// A session begins, in its place.
+fn enter(numbers: &mut Vec<u32>, sessions: &mut Vec<SessionKept>, new: SessionKept)
+    requires same { numbers.old.items ≡ numbers_of sessions.old.items }
+    requires rising { AreRising numbers.old.items }
+    requires fresh { kept_of sessions.old.items new.number ≡ None }
+    requires places { vec_len numbers.old < vec_capacity numbers.old }
+    requires room { vec_len sessions.old < vec_capacity sessions.old }
+    ensures entered { sessions_seen sessions.new.items ≡ entered (session_seen new) (sessions_seen sessions.old.items) }
+    ensures same { numbers.new.items ≡ numbers_of sessions.new.items }
+    ensures rising { AreRising numbers.new.items }
+    ensures kept { kept_of sessions.new.items new.number ≡ Some new }
+    ensures sequences { (n : ℕ) → SequencesAreWithin n sessions.old.items → SequenceIsWithin n new → SequencesAreWithin n sessions.new.items }
+{
+    let number = new.number;
+    match search(numbers, number) {
+        Ok(_) => unreachable!(),
+        Err(at) => {
+            match numbers.insert(at, number) {
+                Ok(()) => {}
+                Err(_) => unreachable!(),
+            }
+            match sessions.insert(at, new) {
+                Ok(()) => {}
+                Err(_) => unreachable!(),
+            }
+        }
+    }
+}
+
+// Every record that has a container is closed, in order of their sessions.
+fn sweep_all(alloc: Global, sessions: &mut [SessionKept], closed: &mut Vec<Kept>, stamp: Moment)
+    requires spare { vec_len closed.old + length sessions.old ≤ vec_capacity closed.old }
+    requires few { vec_len closed.old + length sessions.old < 2 ^ 32 - 1 }
+    requires sequences { SequencesAreWithin (vec_len closed.old) sessions.old }
+    ensures swept { all_swept (sessions_seen sessions.old) stamp closed.old.items ≡ records_seen sessions.new closed.new.items }
+    ensures numbers { numbers_of sessions.new ≡ numbers_of sessions.old }
+    ensures sequences { SequencesAreWithin (vec_len closed.new) sessions.new }
+    ensures capacity { vec_capacity closed.new ≡ vec_capacity closed.old }
+    ensures len { vec_len closed.new ≤ vec_len closed.old + length sessions.old }
+    ensures kept { vec_len closed.old ≤ vec_len closed.new }
+{
+    for session in sessions.iter_mut() {
+        session.sweep(alloc, closed, stamp);
+    }
+}
+
+// A record with the names of its session.
+fn name(limits: &RecordLimits, session: &SessionKept, kept: &Kept) -> Result<Record, OutOfMemory>
+    ensures { IfOk result (λ r. r ≡ named_as limits.now (session_seen session.now) kept.now) }
+{
+    Ok(Record {
+        function: copy(&limits.function)?,
+        subscriber: copy(&session.subscriber)?,
+        consumer: copy(&session.consumer)?,
+        charging_id: session.charging_id,
+        usage: copy(&kept.usage)?,
+        opening: kept.opening,
+        duration: kept.duration,
+        sequence: kept.sequence,
+        cause: kept.cause,
+        local: kept.local,
+    })
+}
+
+impl Book {
+    /// No session and no record.
+    pub fn new(alloc: Global, limits: &RecordLimits) -> Result<Book, OutOfMemory>
+        ensures records { IfOk result (λ b. b.records ≡ no_records) }
+        ensures limits { IfOk result (λ b. b.limits ≡ limits.now) }
+    {
+        let limits = RecordLimits {
+            volume: limits.volume,
+            seconds: limits.seconds,
+            changes: limits.changes,
+            containers: limits.containers,
+            function: copy(&limits.function)?,
+        };
+        Ok(Book {
+            alloc,
+            limits,
+            numbers: Vec::new(alloc),
+            sessions: Vec::new(alloc),
+            closed: Vec::new(alloc),
+            next: Unclosed::empty(alloc),
+        })
+    }
+
+    /// Makes room for the entries of a session, no two of one group: then one `begin` of that session, one `add` of these
+    /// entries to it, and one `close` of it or one `close_all`, have their places. Nothing else changes, also where it fails.
+    pub fn make_room(&mut self, session: u32, used: &[UnitUsage]) -> Result<(), OutOfMemory>
+        requires apart { AreApart used.now }
+        ensures places { OnOk result (0 < self.new.places) }
+        ensures spare { OnOk result (length self.new.records.sessions + 2 ≤ self.new.spare) }
+        ensures room { OnOk result (HasRoomFor self.new session used.now) }
+        ensures records { self.new.records ≡ self.old.records }
+        ensures limits { self.new.limits ≡ self.old.limits }
+    {
+        self.numbers.reserve(1)?;
+        self.sessions.reserve(1)?;
+        self.closed.reserve(self.sessions.len() + 2)?;
+        self.next.make_room(used)?;
+        make_room_of(&self.numbers, &mut self.sessions, session, used)?;
+        Ok(())
+    }
+
+    /// A session begins, with the names of its records; its first record opens. Takes a place.
+    pub fn begin(
+        &mut self,
+        session: u32,
+        subscriber: Text,
+        consumer: Text,
+        charging_id: u32,
+        stamp: Moment,
+    )
+        requires places { 0 < self.old.places }
+        requires fresh { session_of self.old.records.sessions session ≡ None }
+        ensures records { self.new.records ≡ after self.old.limits (Begun session subscriber consumer charging_id stamp) self.old.records }
+        ensures room { (used : Listed Entry) → HasRoomFor self.old session used → HasRoomFor self.new session used }
+        ensures spare { self.new.spare ≡ self.old.spare }
+        ensures limits { self.new.limits ≡ self.old.limits }
+    {
+        let mut record = mem::replace(&mut self.next, Unclosed::empty(self.alloc));
+        record.open(session, stamp, 1);
+        let new = SessionKept {
+            number: session,
+            subscriber,
+            consumer,
+            charging_id,
+            unclosed: Some(record),
+        };
+        enter(&mut self.numbers, &mut self.sessions, new);
+    }
+
+    /// Containers come to a session that has begun and not ended. Where they are not the last and a limit is reached, its
+    /// record is closed, and the next one opens at that stamp.
+    pub fn add(&mut self, session: u32, used: List<UnitUsage>, stamp: Moment, last: bool)
+        requires room { HasRoomFor self.old session used }
+        requires spare { 0 < self.old.spare }
+        requires few { length self.old.records.closed < 2 ^ 32 - 2 }
+        ensures records { self.new.records ≡ after self.old.limits (Added session used stamp last) self.old.records }
+        ensures spare { self.old.spare ≤ self.new.spare + 1 }
+        ensures limits { self.new.limits ≡ self.old.limits }
+    {
+        add_to(
+            self.alloc,
+            &self.limits,
+            &self.numbers,
+            &mut self.sessions,
+            &mut self.closed,
+            session,
+            used,
+            stamp,
+            last,
+        );
+    }
+
+    /// A session that has begun ends, and its record is closed, also where it has no container.
+    pub fn close(&mut self, session: u32, cause: u8, stamp: Moment)
+        requires spare { 0 < self.old.spare }
+        requires few { length self.old.records.closed < 2 ^ 32 - 2 }
+        ensures records { self.new.records ≡ after self.old.limits (Ended session cause stamp) self.old.records }
+        ensures spare { self.old.spare ≤ self.new.spare + 1 }
+        ensures limits { self.new.limits ≡ self.old.limits }
+    {
+        end_of(
+            &self.numbers,
+            &mut self.sessions,
+            &mut self.closed,
+            session,
+            cause,
+            stamp,
+        );
+    }
+
+    /// Closes every record that has a container, in order of session, and answers how many those were; the next ones open at
+    /// that stamp.
+    pub fn close_all(&mut self, stamp: Moment) -> u32
+        requires spare { length self.old.records.sessions ≤ self.old.spare }
+        requires few { length self.old.records.closed + length self.old.records.sessions < 2 ^ 32 - 1 }
+        ensures records { self.new.records ≡ after self.old.limits (ClosedAll stamp) self.old.records }
+        ensures count { result ≡ length self.new.records.closed - length self.old.records.closed }
+        ensures limits { self.new.limits ≡ self.old.limits }
+    {
+        let before = self.closed.len();
+        sweep_all(self.alloc, &mut self.sessions, &mut self.closed, stamp);
+        (self.closed.len() - before) as u32
+    }
+
+    /// The closed records, in order of closing.
+    pub fn closed(&self) -> &[Kept]
+        ensures { result.now ≡ self.now.records.closed }
+    {
+        self.closed.as_slice()
+    }
+
+    /// The record of a session that is not closed; none exactly where the session has not begun or has ended.
+    pub fn unclosed(&self, session: u32) -> Option<&Unclosed>
+        ensures { option_map (λ u. u.now.kept) result ≡ open_of self.now.records.sessions session }
+    {
+        match found(&self.numbers, &self.sessions, session) {
+            Some(session) => session.unclosed.as_ref(),
+            None => None,
+        }
+    }
+
+    /// A record of a session that has begun, with the names that the session gave and the function that writes it.
+    pub fn named(&self, kept: &Kept) -> Result<Record, OutOfMemory>
+        requires begun { IsSome (session_of self.now.records.sessions kept.now.session) }
+        ensures { IfOk result (λ r. IfSome (session_of self.now.records.sessions kept.now.session) (λ z. r ≡ named_as self.now.limits z kept.now)) }
+    {
+        match found(&self.numbers, &self.sessions, kept.session) {
+            Some(session) => name(&self.limits, session, kept),
+            None => unreachable!(),
+        }
+    }
+}

@@ -1,0 +1,158 @@
+//! A session of a book.
+ghost use Rattle.std.specs.Prelude.{◌≡◌, ℕ, OnOk, ◌≤◌, ◌<◌, ◌+◌, ◌-◌, ◌^◌, length, option_map, Some, IfSome, vec_len, vec_capacity};
+ghost use Rattle.records.specs.Closing.{opened, cause_at};
+ghost use Rattle.records.specs.Book.{and_closed, cause_of, sweeping, added, ended, swept, settled, with_open};
+ghost use Rattle.records.specs.Groups.{HasRoom, AreApart};
+ghost use Rattle.records.specs.Seen.{session_seen, SequenceIsWithin, HasRoomIn};
+
+use crate::limits::RecordLimits;
+use crate::record::Kept;
+use crate::unclosed::Unclosed;
+use std::alloc::{AllocError, Global};
+use units::{List, Moment, Text, UnitUsage};
+
+/// A session of a book: the names that its records have, and its record that is not closed, until it ends (this product's
+/// own).
+#[derive(Drop)]
+pub struct SessionKept {
+    pub number: u32,
+    pub subscriber: Text,
+    pub consumer: Text,
+    pub charging_id: u32,
+    pub unclosed: Option<Unclosed>,
+}
+
+// A record is closed, and put behind the others.
+fn put(closed: &mut Vec<Kept>, record: Unclosed, cause: u8, stamp: Moment)
+    requires spare { vec_len closed.old < vec_capacity closed.old }
+    requires few { vec_len closed.old < 2 ^ 32 - 2 }
+    ensures closed { closed.new.items ≡ and_closed closed.old.items record.kept cause stamp }
+    ensures capacity { vec_capacity closed.new ≡ vec_capacity closed.old }
+    ensures len { vec_len closed.new ≡ vec_len closed.old + 1 }
+{
+    let local = closed.len() as u32 + 1;
+    closed.push_reserved(record.close(cause, stamp, local));
+}
+
+// The record that opens next.
+fn next(alloc: Global, session: u32, sequence: u32, stamp: Moment) -> Unclosed
+    requires few { sequence < 2 ^ 32 - 1 }
+    ensures { result.kept ≡ opened session stamp (sequence + 1) }
+{
+    let mut record = Unclosed::empty(alloc);
+    record.open(session, stamp, sequence + 1);
+    record
+}
+
+// A record is closed and the next one opens, where there is a cause.
+fn settle(
+    alloc: Global,
+    closed: &mut Vec<Kept>,
+    record: Unclosed,
+    cause: Option<u8>,
+    stamp: Moment,
+) -> Unclosed
+    requires spare { vec_len closed.old < vec_capacity closed.old }
+    requires few { vec_len closed.old < 2 ^ 32 - 2 }
+    requires sequence { record.kept.sequence ≤ vec_len closed.old + 1 }
+    ensures settled { settled record.kept cause stamp closed.old.items ≡ (Some result.kept, closed.new.items) }
+    ensures capacity { vec_capacity closed.new ≡ vec_capacity closed.old }
+    ensures len { vec_len closed.new ≤ vec_len closed.old + 1 }
+    ensures kept { vec_len closed.old ≤ vec_len closed.new }
+    ensures sequence { result.kept.sequence ≤ vec_len closed.new + 1 }
+{
+    match cause {
+        None => record,
+        Some(cause) => {
+            let after = next(alloc, record.session(), record.sequence(), stamp);
+            put(closed, record, cause, stamp);
+            after
+        }
+    }
+}
+
+impl SessionKept {
+    /// Makes room for entries in its record, no two of one group. Nothing else changes, also where it fails.
+    pub fn make_room(&mut self, used: &[UnitUsage]) -> Result<(), AllocError>
+        requires apart { AreApart used.now }
+        ensures room { OnOk result (IfSome self.new.unclosed (λ u. HasRoom u used.now)) }
+        ensures kept { session_seen self.new ≡ session_seen self.old }
+        ensures sequence { (n : ℕ) → SequenceIsWithin n self.old → SequenceIsWithin n self.new }
+    {
+        match self.unclosed.as_mut() {
+            Some(record) => record.make_room(used),
+            None => Ok(()),
+        }
+    }
+
+    /// Containers come to it, for which it has room.
+    pub fn add(
+        &mut self,
+        alloc: Global,
+        limits: &RecordLimits,
+        closed: &mut Vec<Kept>,
+        used: List<UnitUsage>,
+        stamp: Moment,
+        last: bool,
+    )
+        requires room { IfSome self.old.unclosed (λ u. HasRoom u used) }
+        requires spare { vec_len closed.old < vec_capacity closed.old }
+        requires few { vec_len closed.old < 2 ^ 32 - 2 }
+        requires sequence { SequenceIsWithin (vec_len closed.old) self.old }
+        ensures added { added limits.now used stamp last (session_seen self.old).unclosed closed.old.items ≡ ((session_seen self.new).unclosed, closed.new.items) }
+        ensures session { session_seen self.new ≡ with_open (session_seen self.new).unclosed (session_seen self.old) }
+        ensures capacity { vec_capacity closed.new ≡ vec_capacity closed.old }
+        ensures len { vec_len closed.new ≤ vec_len closed.old + 1 }
+        ensures kept { vec_len closed.old ≤ vec_len closed.new }
+        ensures sequence { SequenceIsWithin (vec_len closed.new) self.new }
+    {
+        if let Some(record) = self.unclosed.take() {
+            let mut record = record;
+            record.add(used);
+            let cause = if last {
+                None
+            } else {
+                record.cause(limits, stamp)
+            };
+            self.unclosed = Some(settle(alloc, closed, record, cause, stamp));
+        }
+    }
+
+    /// It ends, and its record is closed.
+    pub fn end(&mut self, closed: &mut Vec<Kept>, cause: u8, stamp: Moment)
+        requires spare { vec_len closed.old < vec_capacity closed.old }
+        requires few { vec_len closed.old < 2 ^ 32 - 2 }
+        ensures ended { ended cause stamp (session_seen self.old).unclosed closed.old.items ≡ ((session_seen self.new).unclosed, closed.new.items) }
+        ensures session { session_seen self.new ≡ with_open (session_seen self.new).unclosed (session_seen self.old) }
+        ensures capacity { vec_capacity closed.new ≡ vec_capacity closed.old }
+        ensures len { vec_len closed.new ≤ vec_len closed.old + 1 }
+        ensures kept { vec_len closed.old ≤ vec_len closed.new }
+        ensures sequence { SequenceIsWithin (vec_len closed.new) self.new }
+    {
+        if let Some(record) = self.unclosed.take() {
+            put(closed, record, cause, stamp);
+        }
+    }
+
+    /// Its record is closed where it has a container, and the next one opens.
+    pub fn sweep(&mut self, alloc: Global, closed: &mut Vec<Kept>, stamp: Moment)
+        requires spare { vec_len closed.old < vec_capacity closed.old }
+        requires few { vec_len closed.old < 2 ^ 32 - 2 }
+        requires sequence { SequenceIsWithin (vec_len closed.old) self.old }
+        ensures swept { swept stamp (session_seen self.old).unclosed closed.old.items ≡ ((session_seen self.new).unclosed, closed.new.items) }
+        ensures session { session_seen self.new ≡ with_open (session_seen self.new).unclosed (session_seen self.old) }
+        ensures capacity { vec_capacity closed.new ≡ vec_capacity closed.old }
+        ensures len { vec_len closed.new ≤ vec_len closed.old + 1 }
+        ensures kept { vec_len closed.old ≤ vec_len closed.new }
+        ensures sequence { SequenceIsWithin (vec_len closed.new) self.new }
+    {
+        if let Some(record) = self.unclosed.take() {
+            let cause = if record.has_container() {
+                Some(20)
+            } else {
+                None
+            };
+            self.unclosed = Some(settle(alloc, closed, record, cause, stamp));
+        }
+    }
+}
