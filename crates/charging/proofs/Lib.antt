@@ -6,6 +6,7 @@ pub mod FieldTexts
 pub mod OneRow
 pub mod PlainLines
 pub mod PlainPieces
+pub mod Begins
 pub mod Begun
 pub mod NamesInOrder
 pub mod ClapFaults

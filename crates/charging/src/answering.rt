@@ -1,10 +1,10 @@
 //! What the charging function answers on each item of an input.
-ghost use Rattle.std.specs.Prelude.{◌≡◌, ◌++◌, Ok, Some, None, IfOk, OnOk, codes, option_copied};
+ghost use Rattle.std.specs.Prelude.{◌≡◌, ◌++◌, ◌==◌, false, Ok, Some, None, IfOk, OnOk, codes, option_copied};
 ghost use Rattle.std.specs.Option.{option_and_then};
 ghost use Rattle.std.specs.Fmt.{decimal};
 ghost use Rattle.chf_core.specs.State.{nothing_yet};
 ghost use Rattle.chf_core.specs.Deciding.{decision};
-ghost use Rattle.chf_core.specs.After.{after};
+ghost use Rattle.chf_core.specs.After.{after, is_setup};
 ghost use Rattle.chf_core.specs.Standing.{refusal_reply, reply_of, verdict_reply};
 ghost use Rattle.chf_core.specs.declared.command.Command.TheVariants.{Setup};
 ghost use Rattle.charging.specs.Answering.{after_command, after_item, after_message, command_line, decided, line_of, message_line, message_reply, printed, refusal_number, verdict_line};
@@ -50,6 +50,8 @@ fn push_command(
     command: &Command,
     out: &mut Vec<u8>,
 ) -> Result<(), OutOfMemory>
+    requires begun { (chf.old.state.count == 0) ≡ false }
+    requires later { is_setup command.now ≡ false }
     ensures line { OnOk result (out.new.items ≡ out.old.items ++ verdict_line (decision chf.old.state command.now)) }
     ensures state { OnOk result (chf.new.state ≡ decided chf.old.state command.now (decision chf.old.state command.now)) }
 {
@@ -97,6 +99,8 @@ fn push_charge(
     command: &Command,
     out: &mut Vec<u8>,
 ) -> Result<(), OutOfMemory>
+    requires begun { (chf.old.state.count == 0) ≡ false }
+    requires later { is_setup command.now ≡ false }
     ensures line { OnOk result (out.new.items ≡ out.old.items ++ message_line (verdict_reply chf.old.state (decision chf.old.state command.now))) }
     ensures state { OnOk result (chf.new.state ≡ decided chf.old.state command.now (decision chf.old.state command.now)) }
 {
@@ -120,6 +124,7 @@ fn push_message(
     body: &[u8],
     out: &mut Vec<u8>,
 ) -> Result<(), OutOfMemory>
+    requires { (chf.old.state.count == 0) ≡ false }
     ensures line { OnOk result (out.new.items ≡ out.old.items ++ message_line (message_reply chf.old.state (request_at method path.now body.now))) }
     ensures state { OnOk result (chf.new.state ≡ after_message chf.old.state (request_at method path.now body.now)) }
 {
@@ -135,6 +140,7 @@ fn push_row(
     fields: &[Text],
     out: &mut Vec<u8>,
 ) -> Result<(), OutOfMemory>
+    requires { (chf.old.state.count == 0) ≡ false }
     ensures line { OnOk result (out.new.items ≡ out.old.items ++ command_line chf.old.state (command_of fields.now)) }
     ensures state { OnOk result (chf.new.state ≡ after_command chf.old.state (command_of fields.now)) }
 {
@@ -151,6 +157,7 @@ fn push_item(
     item: &Item,
     out: &mut Vec<u8>,
 ) -> Result<(), OutOfMemory>
+    requires { (chf.old.state.count == 0) ≡ false }
     ensures line { OnOk result (out.new.items ≡ out.old.items ++ line_of chf.old.state item.now) }
     ensures state { OnOk result (chf.new.state ≡ after_item chf.old.state item.now) }
 {

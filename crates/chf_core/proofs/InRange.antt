@@ -28,7 +28,7 @@ use Rattle.chf_core.specs.declared.target.GroupAsk.{GroupAsk}
 use Rattle.chf_core.specs.declared.session.Session.{Session}
 use Rattle.chf_core.specs.declared.command.Command.{Command}
 use Rattle.chf_core.specs.declared.command.Command.TheVariants.{Charge}
-use Rattle.chf_core.specs.Operator.{bars}
+use Rattle.chf_core.specs.Barring.{bars}
 use Rattle.chf_core.specs.Sessions.{account_for, sessions, sessions_after, write_session, by_reference}
 use Rattle.chf_core.specs.Effect.{Rating, mentions, first_ask, asking, asks_after, asks_of, settled, granted, with_grant, terms_of, positive, amount_of, for_volume, for_time, bare, quota_info, is_success, info_by, infos}
 use Rattle.chf_core.specs.Money.{money, rating_of, target_of, infos_for, answer_of, created, reply_by, first_reply}

@@ -1,6 +1,6 @@
 -- What the machine keeps, and what it keeps beside its state: where keys and names are found. No public clause names
 -- these.
-use Rattle.std.specs.Prelude.{◌≡◌, ◌≤◌, ◌-◌, ℕ, min, [], length, vec_len, vec_capacity, Option, Some, None}
+use Rattle.std.specs.Prelude.{◌≡◌, ◌≤◌, ◌-◌, ◌==◌, ℕ, min, false, IsSome, [], length, vec_len, vec_capacity, Option, Some, None}
 use Rattle.chf_core.specs.declared.key.Name.{Name}
 use Rattle.chf_core.specs.declared.key.Key.{Key}
 use Rattle.chf_core.specs.declared.decision.Decision.{Decision}
@@ -39,7 +39,8 @@ machine c = record { state = state_seen c; consumers = c.keyed.consumers.list; p
 
 -- what holds of its fields
 pub record IsIndexed (c : Inside) : Type 0 where
-  pub none : c.no_tariffs ≡ []
+  pub set_up : (c.count == 0) ≡ false → IsSome c.setup
+  pub unbarred : c.none_barred ≡ []
   pub places : (k : Key) → kept_place c.keyed k ≡ place_of (state_seen c) k
   pub references : (n : Name) → kept_reference c.keyed n ≡ reference_of (state_seen c) n
   pub known : AreKnown c.keyed

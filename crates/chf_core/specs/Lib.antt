@@ -1,3 +1,4 @@
+pub mod Barring
 pub mod Operator
 pub mod Sessions
 pub mod Keys

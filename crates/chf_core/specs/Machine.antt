@@ -1,6 +1,7 @@
 -- The machine as its callers see it, what it decides, and when a plan may be committed (TS 32.290, 5.3.2; this
 -- product's own).
-use Rattle.std.specs.Prelude.{◌≡◌, ◌<◌, ◌≤◌, ◌+◌, ◌-◌, ◌^◌, ◌⊎◌, ⊤, true, ℕ, List, length, reverse, slice_get, Option, Some, None}
+use Rattle.std.specs.Prelude.{◌≡◌, ◌<◌, ◌≤◌, ◌+◌, ◌-◌, ◌^◌, ◌==◌, ◌⊎◌, ⊤, true, ℕ, nat_eq, List, length, reverse, slice_get, Option, Some, None}
+use Rattle.std.specs.HashSet.{contains}
 use Rattle.units.specs.declared.request.Operation.{Operation}
 use Rattle.units.specs.declared.request.Operation.TheVariants.{Create}
 use Rattle.units.specs.declared.request.Request.{Request}
@@ -16,12 +17,14 @@ use Rattle.chf_core.specs.declared.decision.Decision.TheVariants as decided
 use Rattle.chf_core.specs.declared.decision.Verdict.TheVariants.{Kept, Known, Refused, Fresh}
 use Rattle.chf_core.specs.declared.session.Session.{Session}
 use Rattle.chf_core.specs.Sessions.{id_of, supi_of}
+use Rattle.chf_core.specs.Barring.{bars}
 use Rattle.chf_core.specs.Keys.{key}
 use Rattle.chf_core.specs.Decisions.{is_fresh}
 use Rattle.chf_core.specs.Named.{IsProvided}
 use Rattle.chf_core.specs.State.{State, account_for, key_of}
 use Rattle.chf_core.specs.CommandMoves.{moves_of}
 use Rattle.chf_core.specs.Deciding.{decision, outcome_of}
+use Rattle.chf_core.specs.After.{is_setup}
 
 -- the state; and what callers need not look at: the names of the consumers, and for how many more commands and moves of
 -- money there is room
@@ -63,7 +66,8 @@ Writes m (Setup setup) change.Setup = ⊤
 Writes m (Charge q) (change.Charge charging_id session consumer) =
     (key_of m.state q ≡ Some (key q.consumer charging_id q.number))
     × ((session ≡ session_by q.operation q (account_for m.state q.subscriber)) × IsProvided m.consumers q.consumer consumer)
-Writes m (Subscriber supi account barred) (change.Subscriber name) = IsProvided m.state.names account name
+Writes m (Subscriber supi account barred) (change.Subscriber name groups) =
+    IsProvided m.state.names account name × ((group : ℕ) → contains nat_eq groups group ≡ bars barred group)
 Writes m (TopUp id account amount) change.TopUp = ⊤
 Writes m (Expire moment) change.Expire = ⊤
 Writes m other change = ⊥
@@ -76,8 +80,9 @@ pub record IsWorkedOut (m : Machine) (c : Command) (p : Plan) : Type 0 where
   pub makeable : AreMakeable p.moves m.state.money
   pub change : Writes m c p.change
 
--- a plan is ready where its command is fresh, all that comes of it is worked out, and there is room for it
+-- a plan is ready where its command is fresh, and a setup the first one and no other, all that comes of it is worked out, and there is room for it
 pub record IsReady (m : Machine) (p : Plan) : Type 0 where
+  pub order : is_setup p.command ≡ (m.state.count == 0)
   pub fresh : decision m.state p.command ≡ Fresh p.outcome
   pub worked_out : IsWorkedOut m p.command p
   pub spare : length p.moves ≤ m.moves

@@ -1,7 +1,6 @@
 -- What the operator's commands of a list stand for. A list of commands has its newest first; what comes after a command is before it in time (this product's own).
-use Rattle.std.specs.Prelude.{ℕ, ◌==◌, nat_eq, Bool, cond, List, [], ◌∷◌, length, Option, Some, None}
+use Rattle.std.specs.Prelude.{ℕ, nat_eq, Bool, cond, List, [], ◌∷◌, length, Option, Some, None}
 use Rattle.std.specs.Option.{option_and_then}
-use Rattle.std.specs.List.{list_any}
 use Rattle.std.specs.Cmp.Lexicographic.{pointwise}
 use Rattle.chf_core.specs.declared.setup.ChfSetup.{ChfSetup}
 use Rattle.chf_core.specs.declared.subscription.Subscription.{Subscription}
@@ -62,10 +61,6 @@ account_of commands supi = option_and_then (λ s. account_number commands s.acco
 abbrev pub barred_in : Option Subscription → List ℕ
 barred_in None = []
 barred_in (Some s) = s.barred
-
--- whether a group is among the barred ones
-abbrev pub bars : List ℕ → ℕ → Bool
-bars barred group = list_any (λ b. b == group) barred
 
 -- the top-up with an id
 abbrev pub topup_of : List Command → List ℕ → Option Sum

@@ -28,7 +28,7 @@ fn same_row(account: &Text, barred: &List<u32>, row: Option<&Subscription>) -> b
     ensures { result ≡ same_row account.now barred.now (option_copied row.entry) }
 {
     match row {
-        Some(s) => s.account == *account && s.barred == *barred,
+        Some(s) => s.account == *account && s.barred.are(barred),
         None => false,
     }
 }

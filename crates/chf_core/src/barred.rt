@@ -1,7 +1,8 @@
 //! The rating groups that are barred for a subscriber.
 ghost use Rattle.std.specs.Prelude.{◌≡◌, [], ℕ, nat_eq, IfOk};
 ghost use Rattle.std.specs.HashSet.{contains};
-ghost use Rattle.chf_core.specs.Operator.{bars};
+ghost use Rattle.std.specs.Cmp.Lexicographic.{pointwise};
+ghost use Rattle.chf_core.specs.Barring.{bars};
 
 use std::alloc::Global;
 use std::collections::HashSet;
@@ -18,7 +19,7 @@ pub(crate) struct Barred {
 impl Model for Barred {
     ghost use Rattle.std.specs.Prelude.{ℕ, ◌≡◌, List, nat_eq};
     ghost use Rattle.std.specs.HashSet.{contains};
-    ghost use Rattle.chf_core.specs.Operator.{bars};
+    ghost use Rattle.chf_core.specs.Barring.{bars};
 
     ghost Value = { List ℕ };
 
@@ -27,8 +28,8 @@ impl Model for Barred {
     ghost invariant = { λ b. (group : ℕ) → contains nat_eq b.found group ≡ bars b.groups group };
 }
 
-// The groups as a set.
-fn set_of(alloc: Global, groups: &[u32]) -> Result<HashSet<u32>, OutOfMemory>
+/// The groups as a set.
+pub fn set_of(alloc: Global, groups: &[u32]) -> Result<HashSet<u32>, OutOfMemory>
     ensures { IfOk result (λ s. (group : ℕ) → contains nat_eq s group ≡ bars groups.now group) }
 {
     let mut found = HashSet::new(alloc);
@@ -49,19 +50,19 @@ impl Barred {
         }
     }
 
-    /// These groups, in their order.
-    pub fn new(alloc: Global, groups: List<u32>) -> Result<Barred, OutOfMemory>
-        ensures { IfOk result (λ b. b ≡ groups) }
+    /// These groups, in their order, with the set of them.
+    pub fn with(groups: List<u32>, found: HashSet<u32>) -> Barred
+        requires { (group : ℕ) → contains nat_eq found group ≡ bars groups group }
+        ensures { result ≡ groups }
     {
-        let found = set_of(alloc, groups.as_slice())?;
-        Ok(Barred { groups, found })
+        Barred { groups, found }
     }
 
-    /// The groups in their order.
-    pub fn groups(&self) -> &[u32]
-        ensures { result.now ≡ self.now }
+    /// Whether they are these groups, in this order.
+    pub fn are(&self, groups: &List<u32>) -> bool
+        ensures { result ≡ pointwise nat_eq self.now groups.now }
     {
-        self.groups.as_slice()
+        self.groups == *groups
     }
 
     /// Whether a group is barred.

@@ -1,11 +1,12 @@
 //! The machine: it decides on a command, and commits what is fresh.
-ghost use Rattle.std.specs.Prelude.{◌≡◌, [], IfOk, OnErr, option_copied, option_map, length};
+ghost use Rattle.std.specs.Prelude.{◌≡◌, ◌==◌, IfOk, OnErr, option_copied, option_map, length};
 ghost use Rattle.accounts.specs.Deadlines.{IsLeast};
 ghost use Rattle.chf_core.specs.Sessions.{name};
 ghost use Rattle.chf_core.specs.State.{nothing_yet, reference_of, kept_at};
-ghost use Rattle.chf_core.specs.After.{after};
+ghost use Rattle.chf_core.specs.After.{after, is_setup};
 ghost use Rattle.chf_core.specs.Machine.{account_name, Answers, IsReady, MayWantMemory};
 
+use crate::barred::Barred;
 use crate::command::{Command, Outcome};
 use crate::decision::{Decision, Plan};
 use crate::found_requests::found_at;
@@ -27,9 +28,9 @@ use units::{Moment, OutOfMemory};
 #[derive(Drop)]
 pub struct Chf {
     pub(crate) setup: Option<ChfSetup>,
-    pub(crate) no_tariffs: Tariffs,
     pub(crate) count: u32,
     pub(crate) names: Names,
+    pub(crate) none_barred: Barred,
     pub(crate) subscribers: TextTable<Subscription>,
     pub(crate) topups: TextTable<Sum>,
     pub(crate) sessions: Vec<Session>,
@@ -72,9 +73,9 @@ impl Chf {
     {
         Chf {
             setup: None,
-            no_tariffs: Tariffs::new(alloc),
             count: 0,
             names: Names::new(alloc),
+            none_barred: Barred::none(alloc),
             subscribers: TextTable::new(alloc),
             topups: TextTable::new(alloc),
             sessions: Vec::new(alloc),
@@ -84,10 +85,11 @@ impl Chf {
         }
     }
 
-    /// What is decided on a command; where it is fresh, with a plan that owns all that its commit needs. Nothing that is
-    /// seen changes. Want of memory is answered only on a fresh command or where there is no further place, and too
+    /// What is decided on a command; where it is fresh, with a plan that owns all that its commit needs. The setup is the
+    /// first command and no other. Nothing that is seen changes. Want of memory is answered only on a fresh command or where there is no further place, and too
     /// where the sums of an account would not fit their types.
     pub fn decide(&mut self, alloc: Global, command: &Command) -> Result<Decision, OutOfMemory>
+        requires order { is_setup command.now ≡ (self.old.state.count == 0) }
         ensures same { self.new.state ≡ self.old.state }
         ensures answer { IfOk result (Answers self.new command.now) }
         ensures memory { OnErr result (MayWantMemory self.old.state command.now) }

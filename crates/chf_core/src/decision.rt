@@ -4,6 +4,7 @@ use crate::names::NewName;
 use crate::refusal::ChfRefusal;
 use crate::session::Session;
 use accounts::Moves;
+use std::collections::HashSet;
 
 /// What a command's commit writes besides what the command says.
 #[derive(Debug, Drop)]
@@ -15,9 +16,10 @@ pub(crate) enum Change {
         session: Option<Session>,
         consumer: Option<NewName>,
     },
-    /// The name of the account, where that is new.
+    /// The name of the account, where that is new, and the set of the barred groups.
     Subscriber {
         name: Option<NewName>,
+        groups: HashSet<u32>,
     },
     TopUp,
     Expire,

@@ -11,6 +11,7 @@ ghost use Rattle.chf_core.specs.CommandMoves.{charge_of, charges, release_of, re
 ghost use Rattle.chf_core.specs.Drafts.{left_in, drafted, Holds};
 
 use crate::asks::asks_of;
+use crate::barred::Barred;
 use crate::give_back::gives_back;
 use crate::grants::{deadline_for, grant_for, info_for};
 use crate::target::{GroupAsk, Target};
@@ -187,7 +188,7 @@ impl Draft {
         accounts: &Accounts,
         tariffs: &Tariffs,
         grace: u32,
-        barred: &[u32],
+        barred: &Barred,
         t: Target,
         stamp: Moment,
         asks: &[GroupAsk],
@@ -257,7 +258,7 @@ pub fn effect_of(
     accounts: &Accounts,
     tariffs: &Tariffs,
     grace: u32,
-    barred: &[u32],
+    barred: &Barred,
     t: Target,
     request: &Request,
 ) -> Result<Effect, OutOfMemory>

@@ -1,19 +1,20 @@
 //! What the machine looks up of its state.
-ghost use Rattle.std.specs.Prelude.{◌≡◌, ◌<◌, ◌+◌, ◌-◌, ◌^◌, Some, length, option_copied, option_map};
+ghost use Rattle.std.specs.Prelude.{◌≡◌, ◌<◌, ◌+◌, ◌-◌, ◌^◌, ◌==◌, Some, false, length, option_copied, option_map};
 ghost use Rattle.chf_core.specs.Operator.{barred_in};
 ghost use Rattle.chf_core.specs.Keys.{key, key_in};
-ghost use Rattle.chf_core.specs.Money.{rates_in, grace_in, failover_in, named_target};
+ghost use Rattle.chf_core.specs.Money.{named_target};
 ghost use Rattle.chf_core.specs.State.{at_text, account_named, account_of, account_for, session_at, named_by, key_of, place_of, kept_at};
 ghost use Rattle.chf_core.specs.CommandMoves.{target_of, supi_by};
 ghost use Rattle.chf_core.specs.Deciding.{is_repeat};
 
+use crate::barred::Barred;
 use crate::chf::Chf;
 use crate::found_requests::found_at;
 use crate::kept_request::KeptRequest;
 use crate::lookups::{at_reference, id_of, supi_for};
 use crate::session::Session;
+use crate::setup::ChfSetup;
 use crate::target::Target;
-use rating::Tariffs;
 use sessions::same_content;
 use units::{Operation, Request, Text};
 
@@ -168,41 +169,24 @@ impl Chf {
         }
     }
 
-    /// The tariffs, which are none before the setup.
-    pub(crate) fn rates(&self) -> &Tariffs
-        ensures { result.now ≡ rates_in self.now.state.setup }
+    /// The setup, the first command.
+    pub(crate) fn set_up(&self) -> &ChfSetup
+        requires { (self.now.state.count == 0) ≡ false }
+        ensures { self.now.state.setup ≡ Some result.now }
     {
         match &self.setup {
-            Some(setup) => &setup.tariffs,
-            None => &self.no_tariffs,
-        }
-    }
-
-    pub(crate) fn grace(&self) -> u32
-        ensures { result ≡ grace_in self.now.state.setup }
-    {
-        match &self.setup {
-            Some(setup) => setup.grace,
-            None => 0,
-        }
-    }
-
-    pub(crate) fn failover(&self) -> Option<bool>
-        ensures { result ≡ failover_in self.now.state.setup }
-    {
-        match &self.setup {
-            Some(setup) => Some(setup.failover),
-            None => None,
+            Some(setup) => setup,
+            None => unreachable!(),
         }
     }
 
     /// The groups that are barred for the subscriber of a request.
-    pub(crate) fn barred(&self, request: &Request) -> &[u32]
+    pub(crate) fn barred(&self, request: &Request) -> &Barred
         ensures { result.now ≡ barred_in (at_text self.now.state.subscribers (supi_by request.now.operation self.now.state request.now)) }
     {
         match self.subscribers.get(supi_for(&self.sessions, request)) {
-            Some(row) => row.barred.as_slice(),
-            None => &[],
+            Some(row) => &row.barred,
+            None => &self.none_barred,
         }
     }
 }

@@ -1,5 +1,5 @@
 //! The plan of a fresh command, which makes all the memory that its commit needs.
-ghost use Rattle.std.specs.Prelude.{◌≡◌, ◌<◌, ◌≤◌, ◌-◌, ◌^◌, IfOk, OnOk, IsSome, Some, true};
+ghost use Rattle.std.specs.Prelude.{◌≡◌, ◌<◌, ◌≤◌, ◌-◌, ◌^◌, ◌==◌, IfOk, OnOk, IsSome, Some, true, false};
 ghost use Rattle.accounts.specs.Making.{AreMakeable};
 ghost use Rattle.chf_core.specs.declared.command.Command.TheVariants.{Setup, Charge, Subscriber, TopUp, Expire};
 ghost use Rattle.chf_core.specs.Sessions.{supi_of};
@@ -9,8 +9,10 @@ ghost use Rattle.chf_core.specs.Decisions.{is_fresh};
 ghost use Rattle.chf_core.specs.State.{key_of};
 ghost use Rattle.chf_core.specs.CommandMoves.{target_of, rating_of, moves_of, infos_for};
 ghost use Rattle.chf_core.specs.Deciding.{decision, outcome_of};
+ghost use Rattle.chf_core.specs.After.{is_setup};
 ghost use Rattle.chf_core.specs.Machine.{Machine, IsReady, IsWorkedOut, Writes, new_session, session_by};
 
+use crate::barred::set_of;
 use crate::chf::Chf;
 use crate::command::{Command, Outcome};
 use crate::decision::{Change, Plan};
@@ -95,8 +97,14 @@ impl Chf {
     // ---- of a charging data request
 
     // What a request makes of the accounts, and what is said of its groups.
-    fn effect(&self, alloc: Global, request: &Request) -> Result<Effect, OutOfMemory>
-        requires { self.now.state.count < 2 ^ 32 - 1 }
+    fn effect(
+        &self,
+        alloc: Global,
+        setup: &ChfSetup,
+        request: &Request,
+    ) -> Result<Effect, OutOfMemory>
+        requires setup { self.now.state.setup ≡ Some setup.now }
+        requires few { self.now.state.count < 2 ^ 32 - 1 }
         ensures moves { IfOk result (λ e. e.moves ≡ moves_of self.now.state (Charge request.now)) }
         ensures infos { IfOk result (λ e. e.infos ≡ infos_for (rating_of self.now.state request.now) request.now self.now.state.money (target_of self.now.state request.now)) }
         ensures makeable { IfOk result (λ e. AreMakeable e.moves self.now.state.money) }
@@ -105,8 +113,8 @@ impl Chf {
             Some(t) => effect_of(
                 alloc,
                 &self.accounts,
-                self.rates(),
-                self.grace(),
+                &setup.tariffs,
+                setup.grace,
                 self.barred(request),
                 t,
                 request,
@@ -142,12 +150,14 @@ impl Chf {
         request: &Request,
         charging_id: u32,
     ) -> Result<Plan, OutOfMemory>
+        requires begun { (self.now.state.count == 0) ≡ false }
         requires few { self.now.state.count < 2 ^ 32 - 1 }
         requires key { key_of self.now.state request.now ≡ Some (key request.now.consumer charging_id request.now.number) }
         ensures { IfOk result (IsWorkedOut self.now (Charge request.now)) }
     {
-        let Effect { moves, infos } = self.effect(alloc, request)?;
-        let reply = self.first_reply(alloc, request, infos)?;
+        let setup = self.set_up();
+        let Effect { moves, infos } = self.effect(alloc, setup, request)?;
+        let reply = self.first_reply(alloc, setup, request, infos)?;
         let change = self.change_of(alloc, request, charging_id)?;
         Ok(Plan {
             command: Command::Charge {
@@ -160,6 +170,7 @@ impl Chf {
     }
 
     fn plan_charge(&self, alloc: Global, request: &Request) -> Result<Plan, OutOfMemory>
+        requires begun { (self.now.state.count == 0) ≡ false }
         requires few { self.now.state.count < 2 ^ 32 - 1 }
         requires key { IsSome (key_of self.now.state request.now) }
         ensures { IfOk result (IsWorkedOut self.now (Charge request.now)) }
@@ -192,6 +203,7 @@ impl Chf {
             moves,
             change: Change::Subscriber {
                 name: name_for(alloc, &self.names, account)?,
+                groups: set_of(alloc, barred.as_slice())?,
             },
         })
     }
@@ -233,6 +245,7 @@ impl Chf {
 
     // All that comes of a command, worked out.
     fn work_out(&self, alloc: Global, command: &Command) -> Result<Plan, OutOfMemory>
+        requires order { is_setup command.now ≡ (self.now.state.count == 0) }
         requires few { self.now.state.count < 2 ^ 32 - 1 }
         requires fresh { is_fresh (decision self.now.state command.now) ≡ true }
         ensures { IfOk result (IsWorkedOut self.now command.now) }
@@ -278,6 +291,7 @@ impl Chf {
 
     /// The plan of a command that is fresh.
     pub(crate) fn plan(&mut self, alloc: Global, command: &Command) -> Result<Plan, OutOfMemory>
+        requires order { is_setup command.now ≡ (self.old.state.count == 0) }
         requires few { self.old.state.count < 2 ^ 32 - 1 }
         requires fresh { is_fresh (decision self.old.state command.now) ≡ true }
         ensures same { self.new.state ≡ self.old.state }

@@ -1,11 +1,12 @@
 //! What is kept of a subscriber row and of a top-up.
-use units::{List, Text};
+use crate::barred::Barred;
+use units::Text;
 
 /// A subscriber: the name of its account and the rating groups that are barred.
-#[derive(Clone, Debug, Drop)]
+#[derive(Debug, Drop)]
 pub(crate) struct Subscription {
     pub(crate) account: Text,
-    pub(crate) barred: List<u32>,
+    pub(crate) barred: Barred,
 }
 
 /// A top-up: the name of its account and the amount.

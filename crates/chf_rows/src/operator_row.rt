@@ -1,5 +1,6 @@
 //! The commands that an operator's rows give.
-ghost use Rattle.std.specs.Prelude.{◌≡◌, IfOk, option_map};
+ghost use Rattle.std.specs.Prelude.{◌≡◌, false, IfOk, IfSome, option_map};
+ghost use Rattle.chf_core.specs.After.{is_setup};
 ghost use Rattle.chf_rows.specs.OperatorRow.{amount_of, command_in, command_of, expire_of, groups_in, groups_of, subscriber_of, topup_of};
 ghost use Rattle.rows.specs.Pieces.{pieces};
 
@@ -40,7 +41,8 @@ fn groups(alloc: Global, field: &[u8]) -> Result<Option<List<u32>>, OutOfMemory>
 }
 
 fn subscriber(alloc: Global, fields: &[Text]) -> Result<Option<Command>, OutOfMemory>
-    ensures { IfOk result (λ o. o ≡ subscriber_of fields.now) }
+    ensures value { IfOk result (λ o. o ≡ subscriber_of fields.now) }
+    ensures later { IfOk result (λ o. IfSome o (λ c. is_setup c ≡ false)) }
 {
     let [supi, account, barred] = fields else {
         return Ok(None);
@@ -66,7 +68,8 @@ fn amount(field: &Text) -> Option<u128>
 }
 
 fn topup(fields: &[Text]) -> Result<Option<Command>, OutOfMemory>
-    ensures { IfOk result (λ o. o ≡ topup_of fields.now) }
+    ensures value { IfOk result (λ o. o ≡ topup_of fields.now) }
+    ensures later { IfOk result (λ o. IfSome o (λ c. is_setup c ≡ false)) }
 {
     let [id, account, sum] = fields else {
         return Ok(None);
@@ -82,7 +85,8 @@ fn topup(fields: &[Text]) -> Result<Option<Command>, OutOfMemory>
 }
 
 fn expire(fields: &[Text]) -> Option<Command>
-    ensures { result ≡ expire_of fields.now }
+    ensures value { result ≡ expire_of fields.now }
+    ensures later { IfSome result (λ c. is_setup c ≡ false) }
 {
     match fields {
         [moment] => Some(Command::Expire {
@@ -93,7 +97,8 @@ fn expire(fields: &[Text]) -> Option<Command>
 }
 
 fn command_in(alloc: Global, fields: &[Text]) -> Result<Option<Command>, OutOfMemory>
-    ensures { IfOk result (λ o. o ≡ command_in fields.now) }
+    ensures value { IfOk result (λ o. o ≡ command_in fields.now) }
+    ensures later { IfOk result (λ o. IfSome o (λ c. is_setup c ≡ false)) }
 {
     match fields {
         [word, rest @ ..] if word.as_str() == "subscriber" => subscriber(alloc, rest),
@@ -106,9 +111,10 @@ fn command_in(alloc: Global, fields: &[Text]) -> Result<Option<Command>, OutOfMe
 /// The most bytes of an operator's row, with a line feed.
 const MOST_BYTES: usize = 1_048_577;
 
-/// The command that an operator's row gives, `None` exactly where it is none.
+/// The command that an operator's row gives, `None` exactly where it is none. No row gives a setup.
 pub fn read_operator_row(alloc: Global, fields: &[Text]) -> Result<Option<Command>, OutOfMemory>
-    ensures { IfOk result (λ o. o ≡ command_of fields.now) }
+    ensures value { IfOk result (λ o. o ≡ command_of fields.now) }
+    ensures later { IfOk result (λ o. IfSome o (λ c. is_setup c ≡ false)) }
 {
     if row_size(fields) <= MOST_BYTES {
         command_in(alloc, fields)

@@ -8,3 +8,7 @@ pub mod Entered
 pub mod Swept
 pub mod Begun
 pub mod Once
+pub mod Pushed
+pub mod Utf
+pub mod Over
+pub mod Converting

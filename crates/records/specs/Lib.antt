@@ -6,3 +6,7 @@ pub mod Book
 pub mod Seen
 pub mod Named
 pub mod Once
+pub mod Fields
+pub mod Written
+pub mod Grammar
+pub mod Reading

@@ -1,6 +1,6 @@
 use Rattle.std.proofs.Common.{◌≡◌, ◌||◌, ℕ, nat_eq, drop}
 use Rattle.std.specs.HashSet.{contains}
-use Rattle.chf_core.specs.Operator.{bars}
+use Rattle.chf_core.specs.Barring.{bars}
 use Rattle.chf_core.proofs.barred.set_of.Given as goal
 
 abbrev pub invariant-loop-group : goal.invariant-loop-group

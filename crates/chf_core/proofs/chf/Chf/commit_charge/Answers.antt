@@ -1,4 +1,4 @@
-use Rattle.std.proofs.Common.{rules, ◌≡◌, ◌&&◌, ◌+◌, List, length, map as each, reverse, find, cond, is_some, option_map, Some, None, refl, sym, ap, ◌∙◌, subst, arith}
+use Rattle.std.proofs.Common.{rules, ◌≡◌, ◌==◌, ◌&&◌, ◌+◌, List, length, map as each, reverse, find, cond, is_some, option_map, Some, None, refl, sym, ap, ◌∙◌, subst, arith}
 use Rattle.chf_core.specs.declared.command.Command.TheVariants.{Charge}
 use Rattle.sessions.specs.Content.{content}
 use Rattle.chf_core.specs.declared.decision.Change.TheVariants as change
@@ -36,12 +36,13 @@ invariant_of-self c =
     subst (Writes c.args.self.now (Charge q)) c.in-Charge.is c.requires.worked_out.change in
     let own = key q.consumer id q.number in
     let entry : KeptRequest = record { place = t.count; charging_id = id; request = content q; outcome = c.args.outcome } in
-    let new_is : state_seen (record t { count = t.count + 1; sessions = c.enter_session.new.sessions; accounts = c.make_all.new.self; requests = c.push_reserved.new.self; keyed = c.enter_key.new.keyed }) ≡ after_command s (Charge q) = search rules in
+    let new_is : state_seen (record t { count = t.count + 1; sessions = c.enter_session.new.sessions; accounts = c.make_moves.new.accounts; requests = c.push_reserved.new.self; keyed = c.enter_key.new.keyed }) ≡ after_command s (Charge q) = search rules in
     let after = c.enter_session.ensures account writes.1.0 in
     let reference = c.reference_for-reference.ensures ∙ (λ j. option_map (λ _. length (c.deref.ensures.value j) + 1) (writes.1.0 j)) in
     let none : place_of (state_seen t) own ≡ None = ap (λ (x : State). place_of x own) seen ∙ fresh_place s q own c.args.outcome writes.0 c.requires.fresh in
     record {
-      none = i.none;
+      set_up = λ e. i.set_up (ap (λ (m : Machine). m.state.count == 0) c.self.view_is ∙ sym c.requires.order);
+      unbarred = i.unbarred;
       places = λ k.
           c.enter_key.ensures.places k ∙ ap (cond (key_eq own k) (Some t.count)) (i.places k)
           ∙ entered_first (place_of (state_seen t)) own k t.count none

@@ -1,4 +1,4 @@
-use Rattle.std.proofs.Common.{rules, ◌≡◌, ◌+◌, Some, sym, ap, subst, arith}
+use Rattle.std.proofs.Common.{rules, ◌≡◌, ◌+◌, Some, refl, sym, ap, subst, arith}
 use Rattle.chf_core.specs.declared.command.Command.TheVariants.{Setup}
 use Rattle.chf_core.specs.After.{after}
 use Rattle.chf_core.specs.Owners.{IsOwned}
@@ -14,7 +14,8 @@ invariant_of-self c =
     let i = c.self.invariant in
     let new_is : state_seen (record t { setup = Some c.args.setup; count = t.count + 1 }) ≡ after c.args.self.now.state (Setup c.args.setup) = search rules in
     record {
-      none = i.none;
+      set_up = λ e. refl;
+      unbarred = i.unbarred;
       places = i.places;
       references = i.references;
       known = i.known;
