@@ -18,6 +18,7 @@
 #![tactic(auto)]
 
 mod book;
+mod contents;
 mod fields;
 mod filing;
 mod group;
