@@ -1,7 +1,8 @@
 //! What each command's commit writes. Nothing here takes memory.
-ghost use Rattle.std.specs.Prelude.{◌≡◌, ◌<◌, ◌+◌, ◌-◌, ◌^◌, ◌&&◌, Some, Option, ℕ, cond, is_some, length, option_map, vec_len, vec_capacity};
+ghost use Rattle.std.specs.Prelude.{◌≡◌, ◌<◌, ◌≤◌, ◌+◌, ◌-◌, ◌^◌, ◌&&◌, Some, Option, ℕ, cond, is_some, length, option_map, vec_len, vec_capacity};
 ghost use Rattle.chf_core.specs.declared.key.Name.{Name as NameSeen};
 ghost use Rattle.chf_core.specs.declared.key.Key.{Key as KeySeen};
+ghost use Rattle.accounts.specs.Making.{made, AreMakeable};
 ghost use Rattle.chf_core.specs.Operator.{number_in, with_name};
 ghost use Rattle.chf_core.specs.Sessions.{sessions_after, with_last, write_session, by_reference, name, same_session, id_of};
 ghost use Rattle.chf_core.specs.Keys.{key, key_eq};
@@ -22,7 +23,7 @@ use crate::numbered::{NumberedKey, NumberedName};
 use crate::session::Session;
 use crate::setup::ChfSetup;
 use crate::subscription::{Subscription, Sum};
-use accounts::Moves;
+use accounts::{Accounts, Moves};
 use units::{List, Moment, Operation, Request, Text};
 
 fn set_last(session: &mut Session, last: u32, is_open: bool)
@@ -98,6 +99,15 @@ fn enter_key(
     }
 }
 
+// The moves of a plan are made.
+fn make_moves(accounts: &mut Accounts, moves: &Moves)
+    requires makeable { AreMakeable moves.now accounts.old.state }
+    requires spare { length moves.now ≤ accounts.old.spare }
+    ensures { accounts.new.state ≡ made moves.now accounts.old.state }
+{
+    accounts.make_all(moves.as_slice());
+}
+
 // A name has a number from the first time on that it comes.
 fn number_name(names: &mut Names, name: &str, new: Option<NewName>)
     requires room { 0 < names.old.room }
@@ -144,7 +154,7 @@ impl Chf {
         else {
             unreachable!();
         };
-        self.accounts.make_all(moves.as_slice());
+        make_moves(&mut self.accounts, &moves);
         let reference = reference_for(&self.sessions, &session);
         enter_key(
             &mut self.keyed,
@@ -180,7 +190,7 @@ impl Chf {
         let Change::Subscriber { name, groups } = change else {
             unreachable!();
         };
-        self.accounts.make_all(moves.as_slice());
+        make_moves(&mut self.accounts, &moves);
         number_name(&mut self.names, account.as_str(), name);
         self.subscribers.put(
             supi.into_string(),
@@ -204,7 +214,7 @@ impl Chf {
         requires { IsReady self.old (record { command = Command.TopUp id account amount; outcome = outcome; moves = moves; change = change }) }
         ensures { self.new.state ≡ after self.old.state (Command.TopUp id account amount) }
     {
-        self.accounts.make_all(moves.as_slice());
+        make_moves(&mut self.accounts, &moves);
         self.topups.put(id.into_string(), Sum { account, amount });
         self.count += 1;
     }
@@ -219,7 +229,7 @@ impl Chf {
         requires { IsReady self.old (record { command = Command.Expire moment; outcome = outcome; moves = moves; change = change }) }
         ensures { self.new.state ≡ after self.old.state (Command.Expire moment) }
     {
-        self.accounts.make_all(moves.as_slice());
+        make_moves(&mut self.accounts, &moves);
         self.count += 1;
     }
 }

@@ -10,3 +10,5 @@ pub mod Begun
 pub mod Once
 pub mod Pushed
 pub mod Utf
+pub mod Over
+pub mod Converting

@@ -8,3 +8,5 @@ pub mod Named
 pub mod Once
 pub mod Fields
 pub mod Written
+pub mod Grammar
+pub mod Reading

@@ -36,7 +36,7 @@ invariant_of-self c =
     subst (Writes c.args.self.now (Charge q)) c.in-Charge.is c.requires.worked_out.change in
     let own = key q.consumer id q.number in
     let entry : KeptRequest = record { place = t.count; charging_id = id; request = content q; outcome = c.args.outcome } in
-    let new_is : state_seen (record t { count = t.count + 1; sessions = c.enter_session.new.sessions; accounts = c.make_all.new.self; requests = c.push_reserved.new.self; keyed = c.enter_key.new.keyed }) ≡ after_command s (Charge q) = search rules in
+    let new_is : state_seen (record t { count = t.count + 1; sessions = c.enter_session.new.sessions; accounts = c.make_moves.new.accounts; requests = c.push_reserved.new.self; keyed = c.enter_key.new.keyed }) ≡ after_command s (Charge q) = search rules in
     let after = c.enter_session.ensures account writes.1.0 in
     let reference = c.reference_for-reference.ensures ∙ (λ j. option_map (λ _. length (c.deref.ensures.value j) + 1) (writes.1.0 j)) in
     let none : place_of (state_seen t) own ≡ None = ap (λ (x : State). place_of x own) seen ∙ fresh_place s q own c.args.outcome writes.0 c.requires.fresh in

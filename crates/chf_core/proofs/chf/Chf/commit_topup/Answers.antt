@@ -12,7 +12,7 @@ pub invariant_of-self : goal.invariant_of-self
 invariant_of-self c =
     let t = c.self.inside in
     let i = c.self.invariant in
-    let new_is : state_seen (record t { count = t.count + 1; topups = c.put.new.self; accounts = c.make_all.new.self }) ≡ after c.args.self.now.state (TopUp c.args.id c.args.account c.args.amount) = search rules in
+    let new_is : state_seen (record t { count = t.count + 1; topups = c.put.new.self; accounts = c.make_moves.new.accounts }) ≡ after c.args.self.now.state (TopUp c.args.id c.args.account c.args.amount) = search rules in
     record {
       set_up = λ e. i.set_up (ap (λ (m : Machine). m.state.count == 0) c.self.view_is ∙ sym c.requires.order);
       unbarred = i.unbarred;

@@ -1,0 +1,4 @@
+mod Pairs
+mod Building
+mod Setting
+mod Finding

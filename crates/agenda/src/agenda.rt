@@ -1,0 +1,148 @@
+//! The marks of all sessions.
+ghost use Rattle.std.specs.Prelude.{◌≡◌, ◌<◌, ◌+◌, ◌/◌, ◌++◌, [], ℕ, IfOk, OnOk, OnErr, length, replicate, slice_set, slice_index_or};
+ghost use Rattle.agenda.specs.Marks.{quiet, all_of, places_from};
+ghost use Rattle.agenda.specs.Rows.{first_row, pair_at, set_rows, top, found_in, AreRows};
+
+use crate::mark::{Mark, Search, nothing};
+use crate::row::{found_under, pair, rows_over, with_more};
+use std::alloc::Global;
+use std::marker::Model;
+use units::{List, OutOfMemory};
+
+// The row of the marks.
+fn marks_of(rows: &[List<Mark>]) -> &[Mark]
+    ensures { result.now ≡ first_row rows.now }
+{
+    if rows.is_empty() {
+        &[]
+    } else {
+        rows[0].as_slice()
+    }
+}
+
+// Sets a mark in a row; the mark of the two there.
+fn set_row(rows: &mut [List<Mark>], level: usize, at: usize, mark: Mark) -> Mark
+    requires level { level < length rows.old }
+    requires at { at < length (slice_index_or rows.old level []) }
+    ensures rows { rows.new ≡ slice_set rows.old level (slice_set (slice_index_or rows.old level []) at mark) }
+    ensures pair { result ≡ pair_at (slice_set (slice_index_or rows.old level []) at mark) (at / 2) }
+{
+    rows[level].set(at, mark);
+    pair(rows[level].as_slice(), at / 2)
+}
+
+// Sets a mark in each row.
+fn set_all(rows: &mut [List<Mark>], place: usize, mark: Mark)
+    requires rows { AreRows rows.old }
+    requires place { place < length (first_row rows.old) }
+    ensures { rows.new ≡ set_rows rows.old place mark }
+{
+    let mut at = place;
+    let mut next = mark;
+    for level in 0..rows.len() {
+        next = set_row(rows, level, at, next);
+        at /= 2;
+    }
+}
+
+// The mark at the top.
+fn top_of(rows: &[List<Mark>]) -> Mark
+    ensures { result ≡ top rows.now }
+{
+    if rows.is_empty() {
+        return nothing();
+    }
+    let row = rows[rows.len() - 1].as_slice();
+    if row.is_empty() { nothing() } else { row[0] }
+}
+
+// The places with what is searched for, from the top row down.
+#[tactic(auto, using(crate::proofs::Finding::found_first))]
+fn found_down(
+    alloc: Global,
+    search: &Search,
+    rows: &[List<Mark>],
+) -> Result<Vec<usize>, OutOfMemory>
+    requires rows { AreRows rows.now }
+    requires some { 0 < length rows.now }
+    ensures { IfOk result (λ v. v.items ≡ places_from search.now 0 (first_row rows.now)) }
+{
+    let mut found = Vec::new(alloc);
+    found.push(0)?;
+    for step in 0..rows.len() {
+        let level = rows.len() - 1 - step;
+        found = found_under(alloc, search, rows[level].as_slice(), found.as_slice())?;
+    }
+    Ok(found)
+}
+
+/// Marks by their places.
+#[derive(Drop)]
+pub struct Agenda {
+    rows: Vec<List<Mark>>,
+}
+
+impl Model for Agenda {
+    ghost use Rattle.agenda.specs.Rows.{Marked, AreRows, first_row};
+
+    ghost Value = { Marked };
+
+    ghost view = { λ a. record { marks = first_row a.rows.items } };
+
+    ghost invariant = { λ a. AreRows a.rows.items };
+}
+
+impl Agenda {
+    /// Without marks.
+    pub fn new(alloc: Global) -> Agenda
+        ensures { result.marks ≡ [] }
+    {
+        Agenda {
+            rows: Vec::new(alloc),
+        }
+    }
+
+    /// How many places there are.
+    pub fn len(&self) -> usize
+        ensures { result ≡ length self.now.marks }
+    {
+        marks_of(self.rows.as_slice()).len()
+    }
+
+    /// Makes more places, with marks that have nothing to find; as before where memory is wanting.
+    pub fn grow(&mut self, alloc: Global) -> Result<(), OutOfMemory>
+        ensures more { OnOk result (self.new.marks ≡ self.old.marks ++ replicate (length self.old.marks + 1) quiet) }
+        ensures same { OnErr result (self.new.marks ≡ self.old.marks) }
+    {
+        let marks = with_more(alloc, marks_of(self.rows.as_slice()))?;
+        self.rows = rows_over(alloc, marks)?;
+        Ok(())
+    }
+
+    /// Sets the mark at a place; it takes no memory.
+    #[tactic(auto, using(crate::proofs::Setting::rows_set, crate::proofs::Setting::first_set))]
+    pub fn set(&mut self, place: usize, mark: Mark)
+        requires { place < length self.old.marks }
+        ensures { self.new.marks ≡ slice_set self.old.marks place mark }
+    {
+        set_all(self.rows.as_mut_slice(), place, mark);
+    }
+
+    /// All marks together.
+    #[tactic(auto, using(crate::proofs::Pairs::top_all))]
+    pub fn all(&self) -> Mark
+        ensures { result ≡ all_of self.now.marks }
+    {
+        top_of(self.rows.as_slice())
+    }
+
+    /// The places of the marks that have what is searched for, in order.
+    pub fn places(&self, alloc: Global, search: &Search) -> Result<Vec<usize>, OutOfMemory>
+        ensures { IfOk result (λ v. v.items ≡ places_from search.now 0 self.now.marks) }
+    {
+        if self.rows.is_empty() {
+            return Ok(Vec::new(alloc));
+        }
+        found_down(alloc, search, self.rows.as_slice())
+    }
+}

@@ -1,0 +1,11 @@
+use Rattle.std.proofs.Common.{◌≡◌}
+use Rattle.ber.specs.Tape.{row_seen}
+use Rattle.records.specs.Reading.{over, with_used, no_used_of}
+use Rattle.records.proofs.Over.{size}
+use Rattle.records.proofs.reading.container.Given as goal
+
+abbrev pub invariant-loop-field : goal.invariant-loop-field
+invariant-loop-field l = over with_used l.read (row_seen l.left) ≡ over with_used (no_used_of l.fn.group, l.fn.unknown) (row_seen l.fn.fields)
+
+abbrev pub decreases-loop-field : goal.decreases-loop-field
+decreases-loop-field l = size (row_seen l.left)
