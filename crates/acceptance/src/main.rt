@@ -3,6 +3,7 @@
 //! it, and at the end how many lines each table has.
 #![tactic(auto)]
 
+mod charging_answers;
 mod connections;
 mod cuts;
 mod devices;
@@ -13,6 +14,7 @@ mod http;
 mod messages;
 mod quota_steps;
 mod reports;
+mod sending;
 mod times;
 mod values;
 
@@ -26,7 +28,7 @@ use units::OutOfMemory;
 const INPUT_LIMIT: usize = 1 << 24;
 
 /// The tables, by the words that begin their lines.
-const TABLES: [&str; 21] = [
+const TABLES: [&str; 22] = [
     "time",
     "stamp",
     "request",
@@ -38,6 +40,7 @@ const TABLES: [&str; 21] = [
     "quota",
     "events",
     "many-events",
+    "sending",
     "devices",
     "door",
     "link",
@@ -65,6 +68,7 @@ fn answer(rt: &HostRuntime, table: &str, fields: &[&str]) -> Result<String, OutO
         ("quota", [steps]) => quota_steps::quota(alloc, steps),
         ("events", [events]) => events::events(alloc, false, events),
         ("many-events", [events]) => events::events(alloc, true, events),
+        ("sending", [setup, events]) => sending::sending(alloc, setup, events),
         ("devices", [words, input, reads, writes, room]) => {
             devices::devices(alloc, words, input, reads, writes, room)
         }
