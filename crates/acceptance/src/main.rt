@@ -12,6 +12,7 @@ mod events;
 mod http;
 mod messages;
 mod quota_steps;
+mod records;
 mod reports;
 mod times;
 mod values;
@@ -26,7 +27,7 @@ use units::OutOfMemory;
 const INPUT_LIMIT: usize = 1 << 24;
 
 /// The tables, by the words that begin their lines.
-const TABLES: [&str; 21] = [
+const TABLES: [&str; 22] = [
     "time",
     "stamp",
     "request",
@@ -34,6 +35,7 @@ const TABLES: [&str; 21] = [
     "element",
     "length",
     "once",
+    "record",
     "meter",
     "quota",
     "events",
@@ -61,6 +63,7 @@ fn answer(rt: &HostRuntime, table: &str, fields: &[&str]) -> Result<String, OutO
         ("element", [octets]) => elements::element(alloc, octets),
         ("length", [count]) => elements::length(alloc, count),
         ("once", [octets]) => elements::once(alloc, octets),
+        ("record", [octets]) => records::record(alloc, octets),
         ("meter", [horizon, reports]) => reports::meter(alloc, horizon, reports),
         ("quota", [steps]) => quota_steps::quota(alloc, steps),
         ("events", [events]) => events::events(alloc, false, events),
