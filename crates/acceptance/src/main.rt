@@ -13,6 +13,7 @@ mod events;
 mod http;
 mod messages;
 mod quota_steps;
+mod records;
 mod reports;
 mod sending;
 mod times;
@@ -36,6 +37,7 @@ const TABLES: [&str; 22] = [
     "element",
     "length",
     "once",
+    "record",
     "meter",
     "quota",
     "events",
@@ -64,6 +66,7 @@ fn answer(rt: &HostRuntime, table: &str, fields: &[&str]) -> Result<String, OutO
         ("element", [octets]) => elements::element(alloc, octets),
         ("length", [count]) => elements::length(alloc, count),
         ("once", [octets]) => elements::once(alloc, octets),
+        ("record", [octets]) => records::record(alloc, octets),
         ("meter", [horizon, reports]) => reports::meter(alloc, horizon, reports),
         ("quota", [steps]) => quota_steps::quota(alloc, steps),
         ("events", [events]) => events::events(alloc, false, events),
