@@ -2,7 +2,8 @@
 """tables.py: works the last column of crates/acceptance/stdin out anew, by models that know nothing of the program, and
 writes the counts of crates/acceptance/stdout. A new case is a line of stdin with anything in its last column. The
 tables once, quota, events, many-events, devices, door, link, clock, loopback, journal and file-disk have answers by
-hand, and those of record are of records.py; their lines stay as they are. With --check nothing is written, and a line whose answer is another is a failure.
+hand, and those of record are of records.py; their lines stay as they are. With --check nothing is written, and a line
+whose answer is another is a failure.
 """
 import sys
 from pathlib import Path
