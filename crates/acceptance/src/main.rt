@@ -29,7 +29,7 @@ use units::OutOfMemory;
 const INPUT_LIMIT: usize = 1 << 24;
 
 /// The tables, by the words that begin their lines.
-const TABLES: [&str; 22] = [
+const TABLES: [&str; 23] = [
     "time",
     "stamp",
     "request",
