@@ -36,7 +36,7 @@ mod writing;
 pub use ber::BerRefusal as RecordRefusal;
 pub use book::Book;
 pub use filing::Filing;
-pub use laws::containers_stand_once;
+pub use laws::{containers_stand_once, no_record_begins_another};
 pub use limits::RecordLimits;
 pub use reading::read_record;
 pub use record::{Kept, Record};
