@@ -12,8 +12,8 @@ pub fn containers_stand_once()
     ensures { ContainersStandOnce }
 {}
 
-/// The octets of a record begin those of no other, nor of the same one: of octets that memory can hold at most one beginning
-/// is a record, and it is one record alone: a law for proofs, which does nothing.
+/// Of octets that memory can hold at most one beginning spells a record, and one record alone, so that no spelling of a record
+/// begins another: a law for proofs, which does nothing.
 pub fn no_record_begins_another()
     ensures { (a b x y : List ℕ) (r s : RecordSeen × ℕ) → length (a ++ x) < 2 ^ 63 → SpellsRecord a r → SpellsRecord b s → a ++ x ≡ b ++ y → (a ≡ b) × (r ≡ s) }
 {
