@@ -4,6 +4,7 @@
 #![tactic(auto)]
 
 mod charging_answers;
+mod charging_records;
 mod connections;
 mod cuts;
 mod devices;
@@ -13,7 +14,6 @@ mod events;
 mod http;
 mod messages;
 mod quota_steps;
-mod records;
 mod reports;
 mod sending;
 mod times;
@@ -66,7 +66,7 @@ fn answer(rt: &HostRuntime, table: &str, fields: &[&str]) -> Result<String, OutO
         ("element", [octets]) => elements::element(alloc, octets),
         ("length", [count]) => elements::length(alloc, count),
         ("once", [octets]) => elements::once(alloc, octets),
-        ("record", [octets]) => records::record(alloc, octets),
+        ("record", [octets]) => charging_records::record(alloc, octets),
         ("meter", [horizon, reports]) => reports::meter(alloc, horizon, reports),
         ("quota", [steps]) => quota_steps::quota(alloc, steps),
         ("events", [events]) => events::events(alloc, false, events),
