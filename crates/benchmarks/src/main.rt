@@ -11,6 +11,7 @@ mod message_turns;
 mod moment_turns;
 mod quota_turns;
 mod rating_turns;
+mod record_turns;
 mod smf_turns;
 mod table_turns;
 mod wire_turns;
@@ -26,6 +27,7 @@ use crate::message_turns::{
 use crate::moment_turns::{copied_texts, read_texts, written_texts};
 use crate::quota_turns::turns_of_use;
 use crate::rating_turns::prices;
+use crate::record_turns::record_turns;
 use crate::smf_turns::{meter_turns, smf_times, smf_turns};
 use crate::table_turns::table_turns;
 use crate::wire_turns::{parsed_fronts, parsed_heads, read_messages};
@@ -98,13 +100,19 @@ fn checksum(alloc: Global, call: &str, numbers: &[u64]) -> Result<Option<u64>, O
     }
 }
 
-// The times of turns of a machine, by the clock: of the first ones, of all, and of the last ones.
-fn print_times(rt: &HostRuntime, times: Option<[u128; 3]>) -> io::Result<ExitCode> {
-    let Some([first, all, last]) = times else {
-        return Ok(ExitCode::from(9));
-    };
+// Prints three times.
+fn print_three(rt: &HostRuntime, times: [u128; 3]) -> io::Result<ExitCode> {
+    let [first, all, last] = times;
     println!(rt; "{first} {all} {last}")?;
     Ok(ExitCode::SUCCESS)
+}
+
+// The times of turns of a machine, by the clock: of the first ones, of all, and of the last ones.
+fn print_times(rt: &HostRuntime, times: Option<[u128; 3]>) -> io::Result<ExitCode> {
+    match times {
+        Some(times) => print_three(rt, times),
+        None => Ok(ExitCode::from(9)),
+    }
 }
 
 // What a turn of a journal answered, where there is such a turn and the disk did not refuse it.
@@ -140,6 +148,8 @@ fn run(rt: &HostRuntime) -> io::Result<ExitCode> {
     }
     let found = if call.as_str() == "json-lines" {
         lines(rt)
+    } else if call.as_str().starts_with("records-") {
+        record_turns(rt.alloc(), call.as_str(), numbers.as_slice())
     } else if call.as_str().starts_with("journal-") {
         Ok(journal(rt, call.as_str(), numbers.as_slice())?)
     } else {
