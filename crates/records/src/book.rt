@@ -239,16 +239,9 @@ impl Book {
         ensures records { IfOk result (λ b. b.records ≡ no_records) }
         ensures limits { IfOk result (λ b. b.limits ≡ limits.now) }
     {
-        let limits = RecordLimits {
-            volume: limits.volume,
-            seconds: limits.seconds,
-            changes: limits.changes,
-            containers: limits.containers,
-            function: copy(&limits.function)?,
-        };
         Ok(Book {
             alloc,
-            limits,
+            limits: copy(limits)?,
             numbers: Vec::new(alloc),
             sessions: Vec::new(alloc),
             closed: Vec::new(alloc),

@@ -1,5 +1,5 @@
 //! When records are closed before their session ends.
-use units::Text;
+use units::{Plain, Text};
 
 /// When a record is closed before its session ends, and the function that writes it (TS 32.255, 5.2.3). A limit of 0 is
 /// off.
@@ -15,4 +15,13 @@ pub struct RecordLimits {
     pub containers: u32,
     /// The recording network function.
     pub function: Text,
+}
+
+impl Plain for RecordLimits {
+    ghost use Rattle.std.proofs.Common.{rules};
+    ghost use Rattle.units.specs.contracts.text.TextPlain.TheImpl.Laws as text;
+
+    ghost copies = { Prim.search (rules, text.copies-law) };
+
+    ghost decides = { Prim.search (rules, text.decides-law) };
 }
