@@ -2,3 +2,4 @@ mod Pairs
 mod Building
 mod Setting
 mod Finding
+mod Roomy

@@ -1,5 +1,5 @@
 -- The rows over the marks (this product's own).
-use Rattle.std.specs.Prelude.{◌≡◌, ℕ, ◌+◌, ◌*◌, ◌/◌, ◌≤◌, if◌then◌else◌, List, [], ◌∷◌, ◌++◌, length, slice_set, slice_index_or}
+use Rattle.std.specs.Prelude.{◌≡◌, ℕ, ◌+◌, ◌*◌, ◌-◌, ◌/◌, ◌≤◌, if◌then◌else◌, List, [], ◌∷◌, ◌++◌, length, drop, replicate, slice_set, slice_index_or}
 use Rattle.agenda.specs.declared.mark.Mark.{Mark}
 use Rattle.agenda.specs.declared.mark.Search.{Search}
 use Rattle.agenda.specs.Marks.{quiet, both, finds}
@@ -50,6 +50,13 @@ abbrev pub found_in : Search → List (List Mark) → List ℕ
 found_in search [] = 0 ∷ []
 found_in search (row ∷ rows) = spread search row (found_in search rows)
 
--- what is seen: the marks
+-- the first of the places have marks, and the others nothing to find
+pub record IsRoomy (rows : List (List Mark)) (count : ℕ) : Type 0 where
+  pub over : AreRows rows
+  pub within : count ≤ length (first_row rows)
+  pub rest : drop count (first_row rows) ≡ replicate (length (first_row rows) - count) quiet
+
+-- what is seen: the marks, and for how many more there is a place
 pub record Marked : Type 0 where
   pub marks : List Mark
+  pub room : ℕ

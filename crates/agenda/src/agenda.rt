@@ -1,5 +1,5 @@
 //! The marks of all sessions.
-ghost use Rattle.std.specs.Prelude.{◌≡◌, ◌<◌, ◌+◌, ◌/◌, ◌++◌, [], ℕ, IfOk, OnOk, OnErr, length, replicate, slice_set, slice_index_or};
+ghost use Rattle.std.specs.Prelude.{◌≡◌, ◌<◌, ◌+◌, ◌/◌, ◌++◌, [], ◌∷◌, ℕ, IfOk, OnOk, OnErr, length, replicate, slice_set, slice_index_or};
 ghost use Rattle.agenda.specs.Marks.{quiet, all_of, places_from};
 ghost use Rattle.agenda.specs.Rows.{first_row, pair_at, set_rows, top, found_in, AreRows};
 
@@ -76,20 +76,22 @@ fn found_down(
     Ok(found)
 }
 
-/// Marks by their places.
+/// Marks by their places, and places for more of them.
 #[derive(Drop)]
 pub struct Agenda {
     rows: Vec<List<Mark>>,
+    count: usize,
 }
 
 impl Model for Agenda {
-    ghost use Rattle.agenda.specs.Rows.{Marked, AreRows, first_row};
+    ghost use Rattle.std.specs.Prelude.{◌-◌, length, take};
+    ghost use Rattle.agenda.specs.Rows.{Marked, IsRoomy, first_row};
 
     ghost Value = { Marked };
 
-    ghost view = { λ a. record { marks = first_row a.rows.items } };
+    ghost view = { λ a. record { marks = take a.count (first_row a.rows.items); room = length (first_row a.rows.items) - a.count } };
 
-    ghost invariant = { λ a. AreRows a.rows.items };
+    ghost invariant = { λ a. IsRoomy a.rows.items a.count };
 }
 
 impl Agenda {
@@ -99,37 +101,51 @@ impl Agenda {
     {
         Agenda {
             rows: Vec::new(alloc),
+            count: 0,
         }
     }
 
-    /// How many places there are.
+    /// How many marks there are.
     pub fn len(&self) -> usize
         ensures { result ≡ length self.now.marks }
     {
-        marks_of(self.rows.as_slice()).len()
+        self.count
     }
 
-    /// Makes more places, with marks that have nothing to find; as before where memory is wanting.
-    pub fn grow(&mut self, alloc: Global) -> Result<(), OutOfMemory>
-        ensures more { OnOk result (self.new.marks ≡ self.old.marks ++ replicate (length self.old.marks + 1) quiet) }
-        ensures same { OnErr result (self.new.marks ≡ self.old.marks) }
+    /// Makes a place for one more mark; as before where memory is wanting.
+    pub fn make_room(&mut self, alloc: Global) -> Result<(), OutOfMemory>
+        ensures room { OnOk result (0 < self.new.room) }
+        ensures same { self.new.marks ≡ self.old.marks }
     {
-        let marks = with_more(alloc, marks_of(self.rows.as_slice()))?;
+        let row = marks_of(self.rows.as_slice());
+        if self.count < row.len() {
+            return Ok(());
+        }
+        let marks = with_more(alloc, row)?;
         self.rows = rows_over(alloc, marks)?;
         Ok(())
     }
 
+    /// Adds a mark; it takes no memory.
+    pub fn add(&mut self, mark: Mark)
+        requires { 0 < self.old.room }
+        ensures { self.new.marks ≡ self.old.marks ++ mark ∷ [] }
+    {
+        let _places = marks_of(self.rows.as_slice()).len();
+        set_all(self.rows.as_mut_slice(), self.count, mark);
+        self.count += 1;
+    }
+
     /// Sets the mark at a place; it takes no memory.
-    #[tactic(auto, using(crate::proofs::Setting::rows_set, crate::proofs::Setting::first_set))]
     pub fn set(&mut self, place: usize, mark: Mark)
         requires { place < length self.old.marks }
-        ensures { self.new.marks ≡ slice_set self.old.marks place mark }
+        ensures value { self.new.marks ≡ slice_set self.old.marks place mark }
+        ensures room { self.new.room ≡ self.old.room }
     {
         set_all(self.rows.as_mut_slice(), place, mark);
     }
 
     /// All marks together.
-    #[tactic(auto, using(crate::proofs::Pairs::top_all))]
     pub fn all(&self) -> Mark
         ensures { result ≡ all_of self.now.marks }
     {

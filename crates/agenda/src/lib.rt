@@ -5,7 +5,8 @@
 //! places of the marks that are searched for, in order.
 //!
 //! How it is kept: above the row of the marks stands a row with a mark for each two of them, and so on up to a row of one (`specs/Rows`). A
-//! mark that is set is set in each row, and a search goes down only where a row above has something to find.
+//! mark that is set is set in each row, and a search goes down only where a row above has something to find. Places that have no mark yet
+//! have one with nothing to find, so that `set` and `add` take no memory.
 #![tactic(auto)]
 
 mod agenda;

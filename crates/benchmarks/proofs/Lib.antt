@@ -1,1 +1,2 @@
+pub mod CountedUp
 pub mod Firsts

@@ -2,6 +2,7 @@
 #![tactic(auto)]
 
 mod account_turns;
+mod chf_turns;
 mod draws;
 mod element_turns;
 mod journal_turns;
@@ -15,6 +16,7 @@ mod table_turns;
 mod wire_turns;
 
 use crate::account_turns::charges;
+use crate::chf_turns::{chf_times, chf_turns};
 use crate::element_turns::{hashed_records, read_records, summed_records, written_records};
 use crate::journal_turns::{append_to_file, list_of_file, print_stop};
 use crate::line_turns::parsed_lines;
@@ -76,6 +78,7 @@ fn checksum(alloc: Global, call: &str, numbers: &[u64]) -> Result<Option<u64>, O
         ("accounts", [sessions, groups, active, turns]) => {
             charges(alloc, *sessions, *groups, *active, *turns).map(Some)
         }
+        ("chf", [sessions, updates]) => chf_turns(alloc, *sessions, *updates).map(Some),
         ("smf", [sessions, turns]) => smf_turns(alloc, *sessions, *turns).map(Some),
         ("smf-meter", [sessions, turns]) => meter_turns(alloc, *sessions, *turns).map(Some),
         ("table", [keys, turns]) => table_turns(alloc, *keys, *turns).map(Some),
@@ -95,12 +98,11 @@ fn checksum(alloc: Global, call: &str, numbers: &[u64]) -> Result<Option<u64>, O
     }
 }
 
-// The times of reports to the SMF's machine, by the clock: of the first thousand, of all, and of the last thousand.
-fn print_times(rt: &HostRuntime, sessions: u64, turns: u64) -> io::Result<ExitCode> {
-    let Some(times) = smf_times(rt, sessions, turns)? else {
+// The times of turns of a machine, by the clock: of the first ones, of all, and of the last ones.
+fn print_times(rt: &HostRuntime, times: Option<[u128; 3]>) -> io::Result<ExitCode> {
+    let Some([first, all, last]) = times else {
         return Ok(ExitCode::from(9));
     };
-    let [first, all, last] = times;
     println!(rt; "{first} {all} {last}")?;
     Ok(ExitCode::SUCCESS)
 }
@@ -127,8 +129,14 @@ fn run(rt: &HostRuntime) -> io::Result<ExitCode> {
     let Ok((call, numbers)) = words(rt) else {
         return Ok(ExitCode::from(9));
     };
-    if let ("smf-times", [sessions, turns]) = (call.as_str(), numbers.as_slice()) {
-        return print_times(rt, *sessions, *turns);
+    match (call.as_str(), numbers.as_slice()) {
+        ("chf-times", [sessions, updates]) => {
+            return print_times(rt, chf_times(rt, *sessions, *updates)?);
+        }
+        ("smf-times", [sessions, turns]) => {
+            return print_times(rt, smf_times(rt, *sessions, *turns)?);
+        }
+        _ => {}
     }
     let found = if call.as_str() == "json-lines" {
         lines(rt)

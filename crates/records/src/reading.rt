@@ -6,75 +6,12 @@ ghost use Rattle.records.specs.declared.record.Record.{Record as RecordSeen};
 ghost use Rattle.records.specs.Reading.{number_in, text_in, moment_in, elements_in, is_tag, counted, over, with_trigger, no_used_of, with_amount, is_known_used, with_used, with_container, with_usage_field, with_unit_usage, with_session, with_plain, is_known, with_field, no_record, read_in, SpellsRecord, record_at};
 ghost use Rattle.records.specs.Usage.{unit_usage};
 
-use crate::fields::{integer, stamp, text};
-use crate::place::{Place, is_field};
+use crate::contents::{counted, is_known, is_tag, moment, number, small, words};
+use crate::place::Place;
 use crate::record::Record;
 use ber::{BerRefusal, Row, Tape, TlvRef};
 use std::alloc::{AllocError, Global};
 use units::{List, Moment, Text, UnitUsage, Used};
-
-fn number(limit: u64, field: &TlvRef) -> u64
-    ensures is { result ≡ number_in limit (seen field.now) }
-    ensures bound { result ≤ limit }
-{
-    match field.contents() {
-        Some(contents) => match integer(limit, contents) {
-            Some(number) => number,
-            None => 0,
-        },
-        None => 0,
-    }
-}
-
-fn small(field: &TlvRef) -> u32
-    ensures { result ≡ number_in 4294967295 (seen field.now) }
-{
-    number(u64::from(u32::MAX), field) as u32
-}
-
-fn moment(field: &TlvRef) -> Moment
-    ensures { result ≡ moment_in (seen field.now) }
-{
-    match field.contents() {
-        Some(contents) => match stamp(contents) {
-            Some(moment) => moment,
-            None => Moment::first(),
-        },
-        None => Moment::first(),
-    }
-}
-
-fn is_tag(number: u32, field: &TlvRef) -> bool
-    ensures { result ≡ is_tag number (seen field.now) }
-{
-    let tag = field.tag();
-    tag.class == 2 && tag.number == number
-}
-
-fn is_known(field: &TlvRef) -> bool
-    ensures { result ≡ is_known (seen field.now) }
-{
-    let tag = field.tag();
-    tag.class == 2 && is_field(tag.number)
-}
-
-fn counted(n: u32) -> u32
-    ensures { result ≡ counted n }
-{
-    n.saturating_add(1)
-}
-
-fn words(alloc: Global, field: &TlvRef) -> Result<Text, AllocError>
-    ensures { IfOk result (λ t. t ≡ text_in (seen field.now)) }
-{
-    match field.contents() {
-        Some(contents) => match text(contents) {
-            Some(text) => Text::from_text(alloc, text),
-            None => Ok(Text::new(alloc)),
-        },
-        None => Ok(Text::new(alloc)),
-    }
-}
 
 fn triggers(alloc: Global, kinds: Row) -> Result<List<Text>, AllocError>
     ensures { IfOk result (λ l. l ≡ over with_trigger [] (row_seen kinds.entry)) }

@@ -17,6 +17,9 @@ pub mod Among
 pub mod Flights
 pub mod Givings
 pub mod Limits
+pub mod Left
+pub mod Subscribers
+pub mod Closing
 pub mod Prefixes
 pub mod Lookups
 pub mod Lasts

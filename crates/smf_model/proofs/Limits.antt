@@ -22,7 +22,7 @@ count_cons : (h : Holding) (hs : List Holding) → waiting_count (h ∷ hs) ≡ 
 count_cons h hs = sum_by-cons (λ (k : Holding). cond (is_waiting k.place) 1 0) h hs
 
 -- giving up the oldest leaves so many fewer
-left_waiting : (most : ℕ) (hs : List Holding) → waiting_count (move_oldest most (GivenUp HeldFull) hs) ≡ waiting_count hs - most
+pub left_waiting : (most : ℕ) (hs : List Holding) → waiting_count (move_oldest most (GivenUp HeldFull) hs) ≡ waiting_count hs - most
 left_waiting most [] = omega arith
 left_waiting most (h ∷ hs) = at (is_waiting h.place) (nat_lt 0 most) refl refl (λ n. left_waiting n hs)
   where

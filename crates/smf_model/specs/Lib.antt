@@ -27,4 +27,5 @@ pub mod Apart
 pub mod Ended
 pub mod Sent
 pub mod Flights
+pub mod Left
 pub mod Among

@@ -24,6 +24,7 @@ ghost use Rattle.smf_model.specs.Apart.{RequestsAreApart, SessionsAreApart};
 ghost use Rattle.smf_model.specs.Ended.{HoldsNothing};
 ghost use Rattle.smf_model.specs.Prefixes.{AreStanding};
 ghost use Rattle.smf_model.specs.Limits.{WaitsAtMost};
+ghost use Rattle.smf_model.specs.Left.{NothingIsLeft, StaysClosed, AreOfSubscriber};
 ghost use Rattle.smf_model.specs.Reports.{reports, StandsByReports};
 ghost use Rattle.smf_model.specs.Came.{steps};
 ghost use Rattle.smf_model.specs.Quotas.{StandsBySteps, NoneIsDue};
@@ -106,6 +107,23 @@ pub fn requests_stand()
 /// product's own).
 pub fn few_wait()
     ensures { (setup : SmfSetup) (events : List SmfEvent) (number : ℕ) → WaitsAtMost setup.held_max (session_of number (machine_after setup events).sessions) }
+{}
+
+/// A law of events; it does nothing. After any events no request of a session is due to be frozen: what is due is frozen at the event that makes
+/// it so (TS 32.290, 5.3.2).
+pub fn nothing_is_left()
+    ensures { (setup : SmfSetup) (events : List SmfEvent) (number : ℕ) → NothingIsLeft setup (session_of number (machine_after setup events).sessions) }
+{}
+
+/// A law of events; it does nothing. As events go on a session that is ending or has ended does not come to life again, and the gate of each of its
+/// rating groups is closed (TS 32.290, quota management).
+pub fn gates_stay_closed()
+    ensures { (setup : SmfSetup) (more events : List SmfEvent) (number : ℕ) → StaysClosed (session_of number (machine_after setup events).sessions) (session_of number (machine_after setup (more ++ events)).sessions) }
+{}
+
+/// A law of events; it does nothing. After any events each request of a session is of the session's subscriber (TS 32.291, 6.1.6.2.1.1).
+pub fn requests_are_of_subscriber()
+    ensures { (setup : SmfSetup) (events : List SmfEvent) (number : ℕ) → AreOfSubscriber (trace setup events number) (session_of number (machine_after setup events).sessions) }
 {}
 
 /// A law of events; it does nothing. After any events the reports of a rating group that were counted are numbered 1, 2, 3 without a gap,

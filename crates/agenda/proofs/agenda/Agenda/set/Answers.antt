@@ -1,11 +1,22 @@
-use Rattle.std.proofs.Common.{◌<◌, length, sym, subst, arith}
+use Rattle.std.proofs.Common.{◌<◌, ◌∙◌, length, set, take, sym, ap, subst, arith}
 use Rattle.std.proofs.lemmas.List.{with_items_is}
-use Rattle.agenda.specs.Rows.{Marked, AreRows}
-use Rattle.agenda.proofs.Setting.{rows_kept}
+use Rattle.agenda.specs.Rows.{Marked, IsRoomy, first_row, set_rows}
+use Rattle.agenda.proofs.Roomy.{length_roomy, set_roomy, set_marks}
 use Rattle.agenda.proofs.agenda.Agenda.set.Goals as goal
 
 pub invariant_of-self : goal.invariant_of-self
 invariant_of-self c =
-    subst AreRows (sym (with_items_is c.self.inside.rows c.set_all.new.rows (omega arith)))
-    (rows_kept c.self.inside.rows.items c.as_mut_slice.result.now c.set_all.new.rows c.args.place c.args.mark c.self.invariant c.as_mut_slice.ensures.value c.set_all.ensures
-    (subst (λ (x : Marked). c.args.place < length x.marks) (sym c.self.view_is) c.requires))
+    let rows = c.self.inside.rows.items in
+    let long = length_roomy rows c.self.inside.count c.self.invariant in
+    let within = subst (λ (x : Marked). c.args.place < length x.marks) (sym c.self.view_is) c.requires in
+    subst (λ xs. IsRoomy xs c.self.inside.count) (sym (with_items_is c.self.inside.rows c.set_all.new.rows (omega arith) ∙ c.set_all.ensures ∙ ap (λ xs. set_rows xs c.args.place c.args.mark) c.as_mut_slice.ensures.value))
+    (set_roomy rows c.self.inside.count c.args.place c.args.mark c.self.invariant (omega (arith, long, within)))
+
+pub returns-clause-value : goal.returns-clause-value
+returns-clause-value c =
+    let rows = c.self.inside.rows.items in
+    let long = length_roomy rows c.self.inside.count c.self.invariant in
+    let within = subst (λ (x : Marked). c.args.place < length x.marks) (sym c.self.view_is) c.requires in
+    ap (λ xs. take c.self.inside.count (first_row xs)) (with_items_is c.self.inside.rows c.set_all.new.rows (omega arith) ∙ c.set_all.ensures ∙ ap (λ xs. set_rows xs c.args.place c.args.mark) c.as_mut_slice.ensures.value)
+    ∙ set_marks rows c.self.inside.count c.args.place c.args.mark (omega (arith, long, within))
+    ∙ ap (λ (x : Marked). set x.marks c.args.place c.args.mark) c.self.view_is
