@@ -5,6 +5,8 @@
 //!
 //! How it is kept: each session keeps beside all its containers those that are held, with their places, and an
 //! event works on these alone, through a `Draft`, which makes a `Change` that `Kept::take` writes without memory.
+//! What sends next is read from an agenda of the sessions' marks (`specs/Marking`), which `commit` sets anew where a session changes or
+//! waits no more.
 //! `merged` (`specs/Caches`) says how the held ones stand for the whole session; each function of an event goes
 //! through it.
 //!
@@ -25,6 +27,7 @@ mod ending;
 mod freeze;
 mod index;
 mod kept;
+mod marks;
 mod next;
 mod plan;
 mod rounds;
