@@ -2,11 +2,13 @@
 """tables.py: works the last column of crates/acceptance/stdin out anew, by models that know nothing of the program, and
 writes the counts of crates/acceptance/stdout. A new case is a line of stdin with anything in its last column. The
 tables once, quota, events, many-events, devices, door, link, clock, loopback, journal and file-disk have answers by
-hand; their lines stay as they are. With --check nothing is written, and a line whose answer is another is a failure.
+hand, and those of record are of records.py; their lines stay as they are. With --check nothing is written, and a line
+whose answer is another is a failure.
 """
 import sys
 from pathlib import Path
 
+import charging_trigger
 import elements
 import http_messages
 import messages
@@ -15,7 +17,7 @@ import times
 
 FOLDER = Path(__file__).resolve().parents[2] / "crates" / "acceptance"
 TABLES = (
-    "time stamp request reply element length once meter quota events many-events devices door link clock loopback"
+    "time stamp request reply element length once record meter quota events many-events sending devices door link clock loopback"
     " journal file-disk http-request http-response http-cuts").split()
 OPERATIONS = dict(C="create", U="update", R="release")
 
@@ -48,7 +50,7 @@ def reply(status, location, body):
 
 MODELS = {
     "time": time, "stamp": stamp, "request": request, "reply": reply, "element": elements.element,
-    "length": elements.length, "meter": reports.meter, "http-request": http_messages.requests,
+    "length": elements.length, "meter": reports.meter, "sending": charging_trigger.row, "http-request": http_messages.requests,
     "http-response": http_messages.responses, "http-cuts": http_messages.cuts}
 
 

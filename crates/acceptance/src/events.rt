@@ -1,40 +1,10 @@
-//! Events of one session, number 7, given to the machine of the charging trigger function.
-use crate::values::{long as number, small};
+//! Events of a session, given to the machine of the charging trigger function.
+use crate::charging_answers::{answer, at, trigger};
+use crate::values::{long, small};
 use quotas::Gate;
-use smf_core::{Seen, Smf, SmfEvent, SmfRefusal, SmfSetup};
+use smf_core::{Peer, Seen, Smf, SmfEvent, SmfRefusal, SmfSetup};
 use std::alloc::Global;
-use units::{
-    Action, Amount, Answer, Code, Handling, List, Moment, Operation, OutOfMemory, Problem, Reply,
-    Report, Request, Text, TriggerRule, TriggerType, UnitInfo,
-};
-
-const ATTACHED: u64 = 1_767_323_045;
-
-const TYPES: [(&str, TriggerType); 9] = [
-    ("FORCED", TriggerType::ForcedReauthorisation),
-    ("QOS", TriggerType::QosChange),
-    ("RAT", TriggerType::RatChange),
-    ("PLMN", TriggerType::PlmnChange),
-    ("LOCATION", TriggerType::UserLocationChange),
-    ("TIMEZONE", TriggerType::UeTimezoneChange),
-    ("AMBR", TriggerType::SessionAmbrChange),
-    ("NODE", TriggerType::ServingNodeChange),
-    ("MANAGEMENT", TriggerType::ManagementIntervention),
-];
-
-// So many seconds after the Attach, which is 245 seconds after an hour.
-fn at(seconds: u64) -> Moment {
-    Moment::new(ATTACHED.saturating_add(seconds)).unwrap_or(Moment::first())
-}
-
-fn trigger(text: &str) -> TriggerType {
-    for (name, trigger) in &TYPES {
-        if *name == text {
-            return *trigger;
-        }
-    }
-    TriggerType::Final
-}
+use units::{Handling, List, Operation, OutOfMemory, Problem, Reply, Report, Request, Text};
 
 // A setup; with many, a request is not due for the number of changes.
 fn setup(alloc: Global, many: bool) -> Result<SmfSetup, OutOfMemory> {
@@ -50,76 +20,21 @@ fn setup(alloc: Global, many: bool) -> Result<SmfSetup, OutOfMemory> {
     })
 }
 
-// GROUP:KIND:AMOUNT:THRESHOLD:LAST:SWITCH
-fn info(alloc: Global, fields: &[&str]) -> Option<UnitInfo> {
-    match fields {
-        [group, kind, amount, threshold, last, switch] => Some(UnitInfo {
-            group: small(group),
-            code: if *kind == "d" {
-                Code::Denied
-            } else {
-                Code::Success
-            },
-            grant: match *kind {
-                "v" => Some(Amount::Volume(number(amount))),
-                "s" => Some(Amount::Seconds(small(amount))),
-                _ => None,
-            },
-            switch: if *switch == "-" {
-                None
-            } else {
-                Some(at(number(switch)))
-            },
-            validity: None,
-            holding: None,
-            volume_threshold: if *threshold == "-" {
-                None
-            } else {
-                Some(number(threshold))
-            },
-            time_threshold: None,
-            last_units: if *last == "-" {
-                None
-            } else {
-                Some(Action::Terminate)
-            },
-            triggers: List::new(alloc),
-        }),
-        _ => None,
-    }
-}
-
-fn answer(alloc: Global, request: u32, entries: &[&str]) -> Result<Answer, OutOfMemory> {
-    let mut units = List::new(alloc);
-    let mut triggers = List::new(alloc);
-    for entry in entries {
-        let fields: Vec<&str> = entry.split(':').collect(alloc)?;
-        if let [name, category] = fields.as_slice() {
-            triggers.push(TriggerRule {
-                trigger: trigger(name),
-                immediate: *category == "I",
-                volume: None,
-                seconds: None,
-                changes: None,
-            })?;
-        }
-        if let Some(info) = info(alloc, &fields) {
-            units.push(info)?;
-        }
-    }
-    Ok(Answer {
-        number: request,
-        stamp: at(0),
-        failover: None,
-        handling: None,
-        triggers,
-        units,
+fn problem(alloc: Global, status: u16, cause: &str) -> Result<Problem, OutOfMemory> {
+    Ok(Problem {
+        status,
+        cause: Text::from_text(alloc, cause)?,
+        detail: None,
     })
 }
 
-// The event of a row; the number of a report may be the one that is expected.
-fn event(alloc: Global, smf: &Smf, words: &[&str]) -> Result<SmfEvent, OutOfMemory> {
-    let session = 7;
+/// The event of a session by its words; the number of a report may be the one that is expected.
+pub fn event(
+    alloc: Global,
+    smf: &Smf,
+    session: u32,
+    words: &[&str],
+) -> Result<SmfEvent, OutOfMemory> {
     Ok(match words {
         ["attach", numbers] => {
             let mut groups = List::new(alloc);
@@ -136,7 +51,7 @@ fn event(alloc: Global, smf: &Smf, words: &[&str]) -> Result<SmfEvent, OutOfMemo
         ["start", group, moment] => SmfEvent::Start {
             session,
             group: small(group),
-            moment: at(number(moment)),
+            moment: at(long(moment)),
         },
         ["count", place, group, up, down, seconds, moment] => {
             let group = small(group);
@@ -149,27 +64,27 @@ fn event(alloc: Global, smf: &Smf, words: &[&str]) -> Result<SmfEvent, OutOfMemo
                         small(place)
                     },
                     group,
-                    up: number(up),
-                    down: number(down),
+                    up: long(up),
+                    down: long(down),
                     seconds: small(seconds),
-                    moment: at(number(moment)),
+                    moment: at(long(moment)),
                 },
             }
         }
         ["change", name, moment] => SmfEvent::Change {
             session,
             trigger: trigger(name),
-            moment: at(number(moment)),
+            moment: at(long(moment)),
         },
         ["detach", moment] => SmfEvent::Detach {
             session,
             abnormal: false,
-            moment: at(number(moment)),
+            moment: at(long(moment)),
         },
         ["abort", moment] => SmfEvent::Detach {
             session,
             abnormal: true,
-            moment: at(number(moment)),
+            moment: at(long(moment)),
         },
         ["ok", request, entries @ ..] => {
             let answer = answer(alloc, small(request), entries)?;
@@ -195,21 +110,36 @@ fn event(alloc: Global, smf: &Smf, words: &[&str]) -> Result<SmfEvent, OutOfMemo
             session,
             number: small(request),
             reply: Reply::Refused {
-                problem: Problem {
-                    status: 404,
-                    cause: Text::from_text(alloc, cause)?,
-                    detail: None,
-                },
+                problem: problem(alloc, 404, cause)?,
             },
         },
+        ["refused", request, status, cause] => SmfEvent::Answered {
+            session,
+            number: small(request),
+            reply: Reply::Refused {
+                problem: problem(alloc, u16::try_from(long(status)).unwrap_or(0), cause)?,
+            },
+        },
+        ["attempt", peer] => SmfEvent::Attempt {
+            session,
+            peer: if *peer == "A" {
+                Peer::Alternate
+            } else {
+                Peer::Primary
+            },
+        },
+        ["notsent"] => SmfEvent::NotSent { session },
+        ["noreply"] => SmfEvent::NoReply { session },
+        ["restart"] => SmfEvent::Restart,
         [_, moment] => SmfEvent::Tick {
-            moment: at(number(moment)),
+            moment: at(long(moment)),
         },
         _ => SmfEvent::Tick { moment: at(0) },
     })
 }
 
-fn word(answer: &Result<Seen, SmfRefusal>) -> &'static str {
+/// The word of an answer.
+pub fn word(answer: &Result<Seen, SmfRefusal>) -> &'static str {
     match answer {
         Ok(Seen::New) => "N",
         Ok(Seen::Known) => "K",
@@ -225,8 +155,8 @@ fn word(answer: &Result<Seen, SmfRefusal>) -> &'static str {
     }
 }
 
-// Takes an event by a plan.
-fn taken(alloc: Global, smf: &mut Smf, event: &SmfEvent) -> Result<Seen, SmfRefusal> {
+/// Takes an event by a plan.
+pub fn taken(alloc: Global, smf: &mut Smf, event: &SmfEvent) -> Result<Seen, SmfRefusal> {
     let plan = smf.plan(alloc, event)?;
     let seen = Smf::seen(&plan);
     let committed = smf.commit(plan);
@@ -257,6 +187,17 @@ fn show_request(alloc: Global, request: &Request, text: &mut String) -> Result<(
     Ok(())
 }
 
+/// The word of a gate.
+pub fn word_of(gate: Gate) -> &'static str {
+    match gate {
+        Gate::Passing => "passing",
+        Gate::Waiting => "waiting",
+        Gate::Closed => "closed",
+        Gate::Redirect => "redirect",
+        Gate::Restrict => "restrict",
+    }
+}
+
 // The unanswered request with its rating groups (`?` where it asks, and how many containers), how many containers there are and are held, and the gate of group 10.
 fn show(alloc: Global, smf: &Smf, text: &mut String) -> Result<(), OutOfMemory> {
     match smf.request(7) {
@@ -266,22 +207,38 @@ fn show(alloc: Global, smf: &Smf, text: &mut String) -> Result<(), OutOfMemory> 
     let all = smf.containers(7).len();
     let held = smf.held(7).len();
     text.push_str(format!(in alloc; " c{all} h{held} ")?.as_str())?;
-    text.push_str(match smf.gate(7, 10) {
-        Gate::Passing => "passing",
-        Gate::Waiting => "waiting",
-        Gate::Closed => "closed",
-        Gate::Redirect => "redirect",
-        Gate::Restrict => "restrict",
-    })?;
+    text.push_str(word_of(smf.gate(7, 10)))?;
     Ok(())
 }
 
-fn take_words(alloc: Global, smf: &mut Smf, words: &[&str]) -> Result<&'static str, OutOfMemory> {
-    let event = event(alloc, smf, words)?;
+/// Takes the event of a session that these words say.
+pub fn take_words(
+    alloc: Global,
+    smf: &mut Smf,
+    session: u32,
+    words: &[&str],
+) -> Result<&'static str, OutOfMemory> {
+    let event = event(alloc, smf, session, words)?;
     Ok(word(&taken(alloc, smf, &event)))
 }
 
-/// What comes of a row of events: the answers, and what is seen at the end. With many, a request is not due for the number of changes.
+/// Takes so many reports of group 10, each in a container that a change closes.
+pub fn fill(
+    alloc: Global,
+    smf: &mut Smf,
+    session: u32,
+    count: &str,
+    moment: &str,
+) -> Result<(), OutOfMemory> {
+    for _ in 0..small(count) {
+        let report = ["count", "+", "10", "1", "1", "1", moment];
+        take_words(alloc, smf, session, &report)?;
+        take_words(alloc, smf, session, &["change", "QOS", moment])?;
+    }
+    Ok(())
+}
+
+/// What comes of a row of events of session 7: the answers, and what is seen at the end. With many, a request is not due for the number of changes.
 /// A word `fill` makes so many containers of group 10, each closed by a change.
 pub fn events(alloc: Global, many: bool, row: &str) -> Result<String, OutOfMemory> {
     let mut smf = Smf::new(alloc, &setup(alloc, many)?)?;
@@ -289,13 +246,9 @@ pub fn events(alloc: Global, many: bool, row: &str) -> Result<String, OutOfMemor
     for part in row.split(';') {
         let words: Vec<&str> = part.split_whitespace().collect(alloc)?;
         if let ["fill", count, moment] = words.as_slice() {
-            for _ in 0..small(count) {
-                let report = ["count", "+", "10", "1", "1", "1", moment];
-                take_words(alloc, &mut smf, &report)?;
-                take_words(alloc, &mut smf, &["change", "QOS", moment])?;
-            }
+            fill(alloc, &mut smf, 7, count, moment)?;
         } else {
-            text.push_str(take_words(alloc, &mut smf, &words)?)?;
+            text.push_str(take_words(alloc, &mut smf, 7, &words)?)?;
         }
     }
     text.push_str(" ")?;

@@ -3,6 +3,8 @@
 //! it, and at the end how many lines each table has.
 #![tactic(auto)]
 
+mod charging_answers;
+mod charging_records;
 mod connections;
 mod cuts;
 mod devices;
@@ -13,6 +15,7 @@ mod http;
 mod messages;
 mod quota_steps;
 mod reports;
+mod sending;
 mod times;
 mod values;
 
@@ -26,7 +29,7 @@ use units::OutOfMemory;
 const INPUT_LIMIT: usize = 1 << 24;
 
 /// The tables, by the words that begin their lines.
-const TABLES: [&str; 21] = [
+const TABLES: [&str; 23] = [
     "time",
     "stamp",
     "request",
@@ -34,10 +37,12 @@ const TABLES: [&str; 21] = [
     "element",
     "length",
     "once",
+    "record",
     "meter",
     "quota",
     "events",
     "many-events",
+    "sending",
     "devices",
     "door",
     "link",
@@ -61,10 +66,12 @@ fn answer(rt: &HostRuntime, table: &str, fields: &[&str]) -> Result<String, OutO
         ("element", [octets]) => elements::element(alloc, octets),
         ("length", [count]) => elements::length(alloc, count),
         ("once", [octets]) => elements::once(alloc, octets),
+        ("record", [octets]) => charging_records::record(alloc, octets),
         ("meter", [horizon, reports]) => reports::meter(alloc, horizon, reports),
         ("quota", [steps]) => quota_steps::quota(alloc, steps),
         ("events", [events]) => events::events(alloc, false, events),
         ("many-events", [events]) => events::events(alloc, true, events),
+        ("sending", [setup, events]) => sending::sending(alloc, setup, events),
         ("devices", [words, input, reads, writes, room]) => {
             devices::devices(alloc, words, input, reads, writes, room)
         }

@@ -12,3 +12,6 @@ pub mod Pushed
 pub mod Utf
 pub mod Over
 pub mod Converting
+pub mod Integers
+pub mod Admitted
+pub mod ReadBack

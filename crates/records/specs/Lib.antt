@@ -10,3 +10,4 @@ pub mod Fields
 pub mod Written
 pub mod Grammar
 pub mod Reading
+pub mod Fitting

@@ -5,7 +5,8 @@
 //! `RecordLimits` is reached (`specs/Closing`), `close` ends a session, `close_all` closes what has a container. Over every
 //! list of calls each container that came stands in exactly one record (`containers_stand_once`, `specs/Once`).
 //! `read_record` answers the record at the front, or the octet of the first fault (`specs/Grammar`, `specs/Reading`);
-//! `write_record` writes the one spelling of its element (`specs/Written`).
+//! `write_record` writes the one spelling of its element (`specs/Written`), which reads back (`specs/Fitting`), whatever
+//! follows it.
 //!
 //! How it is built: a record that is not closed (`unclosed`) keeps its containers by rating group (`group`), so that
 //! closing takes no memory, and its sums (`sums`), so that no call walks them; `make_room` takes all memory before. What a
@@ -35,7 +36,7 @@ mod writing;
 pub use ber::BerRefusal as RecordRefusal;
 pub use book::Book;
 pub use filing::Filing;
-pub use laws::containers_stand_once;
+pub use laws::{containers_stand_once, no_record_begins_another};
 pub use limits::RecordLimits;
 pub use reading::read_record;
 pub use record::{Kept, Record};

@@ -4,12 +4,14 @@ ghost use Rattle.moments.specs.Stamp.{stamp_octets};
 ghost use Rattle.ber.specs.Element as elements_of;
 ghost use Rattle.ber.specs.Element.{element, elements, joined, more, none};
 ghost use Rattle.ber.specs.Written.{written};
+ghost use Rattle.records.specs.Fitting.{FitsRecord};
+ghost use Rattle.records.specs.Reading.{SpellsRecord};
 ghost use Rattle.records.specs.Fields.{integer_count, integer_octets};
 ghost use Rattle.records.specs.Written.{number_field, text_field, stamp_field, each, trigger_element, triggers_field, amount_fields, time_fields, trigger_fields, used_element, usage_element, usage_field, name_fields, session_field, other_fields, record_element};
 
 use crate::record::Record;
 use ber::{Tag, Tlv, constructed, primitive, write_tlv};
-use moments::to_bcd;
+use moments::{stamps_read_back, to_bcd};
 use sqlite_items::Items;
 use std::alloc::{AllocError, Global};
 use units::{List, Moment, OutOfMemory, Text, UnitUsage, Used};
@@ -272,8 +274,12 @@ fn tree(alloc: Global, entry: &Record) -> Result<Tlv, OutOfMemory>
 
 /// The octets of a record: definite shortest lengths, and its fields ascending (TS 32.298, 5.1.5.0; X.690 10.1).
 pub fn write_record(alloc: Global, entry: &Record) -> Result<List<u8>, OutOfMemory>
-    ensures { IfOk result (λ bytes. bytes ≡ written (record_element entry.now)) }
+    // The one spelling.
+    ensures written { IfOk result (λ bytes. bytes ≡ written (record_element entry.now)) }
+    // A record in range is spelled so: `read_record` reads it back, whatever follows.
+    ensures spells { FitsRecord entry.now → IfOk result (λ bytes. SpellsRecord bytes (entry.now, 0)) }
 {
+    stamps_read_back();
     let tlv = tree(alloc, entry)?;
     write_tlv(alloc, &tlv)
 }
