@@ -242,6 +242,13 @@ impl Kept {
         expected(&self.session, group)
     }
 
+    /// Its containers with what closed each and where it is, in order of their numbers.
+    pub fn holdings(&self) -> &[Holding]
+        ensures { result.now ≡ self.now.session.holdings }
+    {
+        self.holdings.as_slice()
+    }
+
     /// Its containers, in order of their numbers.
     pub fn containers(&self) -> &[Container]
         ensures { result.now ≡ containers_of self.now.session.holdings }

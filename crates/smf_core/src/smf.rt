@@ -5,7 +5,7 @@ ghost use Rattle.smf_model.specs.declared.refusal.Seen.TheVariants.{New, Known a
 ghost use Rattle.smf_model.specs.Machine.{answer_of, added_by, any_flies, empty, now_after, session_of, stepped};
 ghost use Rattle.smf_core.specs.Lookup.{session_for, next_for, flies_for};
 ghost use Rattle.smf_model.specs.Sending.{send_of};
-ghost use Rattle.smf_core.specs.Reads.{request_in, flight_in, gate_at, expected_at, containers_in, held_in};
+ghost use Rattle.smf_core.specs.Reads.{request_in, flight_in, gate_at, expected_at, containers_in, held_in, holdings_in};
 ghost use Rattle.smf_core.specs.Plan.{added_in, applied, AddedIsReady, IsPlanOf, IsReady, IsRefused, NextIsReady, Takes};
 ghost use Rattle.smf_core.specs.Caches.{sessions_of, IsTied};
 ghost use Rattle.smf_core.specs.Marking.{woken_by};
@@ -19,7 +19,7 @@ use crate::plan::{Next, SmfPlan};
 use crate::step::{added_session, moment_after};
 use agenda::{Agenda, Search};
 use quotas::Gate;
-use smf_model::{Peer, Seen, SmfEvent, SmfRefusal, SmfSetup, copy_setup};
+use smf_model::{Holding, Peer, Seen, SmfEvent, SmfRefusal, SmfSetup, copy_setup};
 use std::alloc::Global;
 use std::marker::Model;
 use units::{Container, List, Moment, OutOfMemory, Request};
@@ -335,6 +335,17 @@ impl Smf {
         match self.found(Some(session)) {
             None => 1,
             Some(kept) => kept.expected(group),
+        }
+    }
+
+    /// The containers of a session in order of their numbers, each with what closed it and when, and where it is: one that is given up has
+    /// the cause of that; empty for an unknown session.
+    pub fn holdings(&self, session: u32) -> &[Holding]
+        ensures { result.now ≡ holdings_in (session_of session self.now.machine.sessions) }
+    {
+        match self.found(Some(session)) {
+            None => &[],
+            Some(kept) => kept.holdings(),
         }
     }
 
