@@ -1,3 +1,4 @@
+pub mod Same
 pub mod Barring
 pub mod Operator
 pub mod Sessions

@@ -1,5 +1,6 @@
 //! The setup.
 use rating::Tariffs;
+use records::RecordLimits;
 use units::Plain;
 
 /// What the operator sets up before anything is charged (this product's own).
@@ -7,6 +8,8 @@ use units::Plain;
 pub struct ChfSetup {
     /// The tariffs of all rating groups.
     pub tariffs: Tariffs,
+    /// When records are closed before their session ends, and the function that writes them.
+    pub limits: RecordLimits,
     /// How many seconds after its validity time a quota is given back, at most 604,800.
     pub grace: u32,
     /// Whether session failover is supported (TS 32.291, 6.1.6.2.1.6).
@@ -15,9 +18,11 @@ pub struct ChfSetup {
 
 impl Plain for ChfSetup {
     ghost use Rattle.std.proofs.Common.{rules};
+    ghost use Rattle.chf_core.specs.Same.{setup_decides};
     ghost use Rattle.rating.specs.contracts.tariffs.TariffsPlain.TheImpl.Laws as tariffs;
+    ghost use Rattle.records.specs.contracts.limits.RecordLimitsPlain.TheImpl.Laws as limits;
 
-    ghost copies = { Prim.search (rules, tariffs.copies-law) };
+    ghost copies = { Prim.search (rules, tariffs.copies-law, limits.copies-law) };
 
-    ghost decides = { λ a b. let rates = tariffs.decides-law a.tariffs b.tariffs in Prim.search rules };
+    ghost decides = { λ a b. setup_decides _ _ a b (tariffs.decides-law a.tariffs b.tariffs) (limits.decides-law a.limits b.limits) };
 }

@@ -1,11 +1,12 @@
 -- The setup rows of a charging function: the rows of a tariff, then `limits,VOLUME,SECONDS,CHANGES,CONTAINERS,GRACE,NAME,FAILOVER` (this product's own).
-use Rattle.std.specs.Prelude.{ℕ, ◌+◌, ◌-◌, ◌^◌, ◌||◌, min, nat_le, bytes_eq, Bool, true, false, List, [], ◌∷◌, take, drop, Option, Some, None, Result, Ok, Err, if◌then◌else◌, option_and_then, codes}
+use Rattle.std.specs.Prelude.{ℕ, ◌+◌, ◌-◌, ◌^◌, ◌||◌, min, nat_le, bytes_eq, Bool, false, List, [], ◌∷◌, take, drop, Option, Some, None, Result, Ok, Err, if◌then◌else◌, option_and_then, codes}
 use Rattle.rows.specs.Number.{number_of}
 use Rattle.units.specs.Names.{spells_name}
 use Rattle.units.specs.Words.{failover_named}
 use Rattle.rating.specs.Grammar.{first_bad}
 use Rattle.chf_core.specs.declared.setup.ChfSetup.{ChfSetup}
 use Rattle.chf_rows.specs.declared.limits.Limits.{Limits}
+use Rattle.chf_rows.specs.declared.limits.Bounds.{Bounds}
 use Rattle.chf_rows.specs.declared.refusal.SetupRefusal.{SetupRefusal}
 use Rattle.chf_rows.specs.declared.refusal.SetupRefusal.TheVariants.{BadRow}
 use Rattle.chf_rows.specs.Size.{first_past}
@@ -19,13 +20,32 @@ is_setup_row (word ∷ fields) = bytes_eq word (codes "group") || (bytes_eq word
 abbrev pub name_of : List ℕ → Option (List ℕ)
 name_of field = if spells_name field then Some field else None
 
--- the fields of a limits row after its word: of a record its octets, seconds, changes and containers, 0 for no limit; the seconds after a quota's
--- validity until it is given back; the recording function's name; failover
+-- the numbers and the word of a limits row: of a record its octets, seconds, changes and containers, 0 for no limit; the
+-- seconds after a quota's validity until it is given back; failover
+abbrev pub bounds_of : List ℕ → List ℕ → List ℕ → List ℕ → List ℕ → List ℕ → Option Bounds
+bounds_of volume seconds changes containers grace word =
+    option_and_then (λ v. option_and_then (λ s. option_and_then (λ c. option_and_then (λ n. option_and_then (λ g. option_and_then (λ f.
+    Some (record { volume = v; seconds = s; changes = c; containers = n; grace = g; failover = f })) (failover_named word))
+    (number_of 604800 grace)) (number_of (2 ^ 32 - 1) containers)) (number_of (2 ^ 32 - 1) changes)) (number_of (2 ^ 32 - 1) seconds))
+    (number_of (2 ^ 64 - 1) volume)
+
+-- the limits with these, and the recording function's name
+abbrev pub limits_with : Bounds → List ℕ → Limits
+limits_with b function = record {
+  records = record { volume = b.volume; seconds = b.seconds; changes = b.changes; containers = b.containers; function = function };
+  grace = b.grace;
+  failover = b.failover;
+}
+
+-- where both are there
+abbrev pub limits_by : Option Bounds → Option (List ℕ) → Option Limits
+limits_by (Some b) (Some function) = Some (limits_with b function)
+limits_by _ _ = None
+
+-- the fields of a limits row after its word
 abbrev pub limits_of : List (List ℕ) → Option Limits
 limits_of (volume ∷ seconds ∷ changes ∷ containers ∷ grace ∷ name ∷ failover ∷ []) =
-    option_and_then (λ v. option_and_then (λ s. option_and_then (λ c. option_and_then (λ n. option_and_then (λ g. option_and_then (λ r. option_and_then (λ f.
-    Some (record { grace = g; failover = f })) (failover_named failover)) (name_of name)) (number_of 604800 grace)) (number_of (2 ^ 32 - 1) containers))
-    (number_of (2 ^ 32 - 1) changes)) (number_of (2 ^ 32 - 1) seconds)) (number_of (2 ^ 64 - 1) volume)
+    limits_by (bounds_of volume seconds changes containers grace failover) (name_of name)
 limits_of _ = None
 
 -- whether a row is a limits row, by its word
@@ -76,7 +96,7 @@ limits_answer rows = with_size (first_past 65536 1 rows) (with_tariff (limits_pl
 
 -- the setup of a tariff and its limits
 abbrev pub setup_with : List (List (List ℕ)) → Result Limits ℕ → Result ChfSetup ℕ
-setup_with tariffs (Ok limits) = Ok (record { tariffs = tariffs; grace = limits.grace; failover = limits.failover })
+setup_with tariffs (Ok limits) = Ok (record { tariffs = tariffs; limits = limits.records; grace = limits.grace; failover = limits.failover })
 setup_with tariffs (Err number) = Err number
 
 -- the setup that rows give, or the number of its first row, counted from 1, that is not accepted; the row after the last where a price row or the limits row is lacking

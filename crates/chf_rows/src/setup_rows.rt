@@ -54,13 +54,13 @@ fn alone(limits: Option<Limits>, number: usize, rows: &[List<Text>]) -> Result<L
 }
 
 // The limits row that ends a setup whose tariff has that many rows.
-fn ending(tariff: usize, rows: &[List<Text>]) -> Result<Limits, usize>
+fn ending(tariff: usize, rows: &[List<Text>]) -> Result<Result<Limits, usize>, OutOfMemory>
     requires { tariff < 2 ^ 63 }
-    ensures { result ≡ ending tariff rows.now }
+    ensures { IfOk result (λ end. end ≡ ending tariff rows.now) }
 {
     match rows {
-        [row, rest @ ..] => alone(limits_row(row.as_slice()), tariff + 1, rest),
-        [] => Err(tariff + 1),
+        [row, rest @ ..] => Ok(alone(limits_row(row.as_slice())?, tariff + 1, rest)),
+        [] => Ok(Err(tariff + 1)),
     }
 }
 
@@ -120,11 +120,12 @@ pub fn read_setup(alloc: Global, rows: &[List<Text>]) -> Result<ChfSetup, SetupR
     let place = limits_place(rows);
     let front = front(alloc, &rows[..place])?;
     let (bad, tariffs) = tariffs(alloc, &front)?;
-    let end = with_tariff(place, bad, ending(place, &rows[place..]));
+    let end = with_tariff(place, bad, ending(place, &rows[place..])?);
     match with_size(first_past(MOST_BYTES, rows), end) {
         Ok(limits) => match tariffs {
             Some(tariffs) => Ok(ChfSetup {
                 tariffs,
+                limits: limits.records,
                 grace: limits.grace,
                 failover: limits.failover,
             }),

@@ -1,6 +1,7 @@
 pub mod Places
 pub mod Summed
 pub mod Added
+pub mod Grouped
 pub mod Rising
 pub mod Sessions
 pub mod Found

@@ -6,6 +6,10 @@ use Rattle.records.specs.declared.record.Kept.{Kept}
 use Rattle.records.specs.Sums.{total, octets, changes, one_each}
 use Rattle.records.specs.Usage.{with_usage}
 
+-- No limits, of a function without a name: those before a setup (this product's own).
+abbrev pub no_limits : RecordLimits
+no_limits = record { volume = 0; seconds = 0; changes = 0; containers = 0; function = [] }
+
 -- A limit is reached; one of 0 is off (TS 32.255, 5.2.3; this product's profile).
 abbrev pub is_reached : ℕ → ℕ → Bool
 is_reached limit amount = not (limit == 0) && nat_le limit amount

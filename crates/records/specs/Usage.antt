@@ -1,5 +1,5 @@
 -- The containers of a record, by rating group.
-use Rattle.std.specs.Prelude.{ℕ, ◌==◌, List, [], ◌∷◌, ◌++◌, length, flat_map, None, if◌then◌else◌}
+use Rattle.std.specs.Prelude.{ℕ, ◌+◌, ◌==◌, List, [], ◌∷◌, ◌++◌, length, flat_map, Option, Some, None, option_map, if◌then◌else◌}
 use Rattle.units.specs.declared.request.Used.{Used}
 use Rattle.units.specs.declared.request.UnitUsage.{UnitUsage}
 
@@ -11,6 +11,11 @@ unit_usage group used = record { group = group; ask = None; used = used }
 abbrev pub with_group : List UnitUsage → ℕ → List Used → List UnitUsage
 with_group [] group used = unit_usage group used ∷ []
 with_group (u ∷ us) group used = if u.group == group then unit_usage u.group (u.used ++ used) ∷ us else u ∷ with_group us group used
+
+-- The place of the first entry of a rating group (this product's own).
+abbrev pub entry_place : List UnitUsage → ℕ → Option ℕ
+entry_place [] group = None
+entry_place (u ∷ us) group = if u.group == group then Some 0 else option_map (λ i. i + 1) (entry_place us group)
 
 -- An entry without containers adds nothing (this product's own).
 abbrev pub with_entry : List UnitUsage → UnitUsage → List UnitUsage

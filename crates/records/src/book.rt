@@ -4,7 +4,7 @@ ghost use Rattle.std.specs.Option.{option_copied};
 ghost use Rattle.std.specs.List.{insert};
 ghost use Rattle.units.specs.declared.request.UnitUsage.{UnitUsage as Entry};
 ghost use Rattle.records.specs.declared.filing.Filing.TheVariants.{Begun, Added, Ended, ClosedAll};
-ghost use Rattle.records.specs.Closing.{opened};
+ghost use Rattle.records.specs.Closing.{opened, no_limits};
 ghost use Rattle.records.specs.Book.{no_records, session_of, open_of, after, all_swept, with_one, with_open, added, ended, entered, reopened};
 ghost use Rattle.records.specs.Groups.{HasRoom, AreApart};
 ghost use Rattle.records.specs.Named.{named_as};
@@ -234,26 +234,37 @@ fn name(limits: &RecordLimits, session: &SessionKept, kept: &Kept) -> Result<Rec
 }
 
 impl Book {
+    /// No session and no record, and no limits. Takes no memory.
+    pub fn empty(alloc: Global) -> Book
+        ensures records { result.records ≡ no_records }
+        ensures limits { result.limits ≡ no_limits }
+    {
+        Book {
+            alloc,
+            limits: RecordLimits::none(alloc),
+            numbers: Vec::new(alloc),
+            sessions: Vec::new(alloc),
+            closed: Vec::new(alloc),
+            next: Unclosed::empty(alloc),
+        }
+    }
+
     /// No session and no record.
     pub fn new(alloc: Global, limits: &RecordLimits) -> Result<Book, OutOfMemory>
         ensures records { IfOk result (λ b. b.records ≡ no_records) }
         ensures limits { IfOk result (λ b. b.limits ≡ limits.now) }
     {
-        let limits = RecordLimits {
-            volume: limits.volume,
-            seconds: limits.seconds,
-            changes: limits.changes,
-            containers: limits.containers,
-            function: copy(&limits.function)?,
-        };
-        Ok(Book {
-            alloc,
-            limits,
-            numbers: Vec::new(alloc),
-            sessions: Vec::new(alloc),
-            closed: Vec::new(alloc),
-            next: Unclosed::empty(alloc),
-        })
+        let mut book = Book::empty(alloc);
+        book.limit(copy(limits)?);
+        Ok(book)
+    }
+
+    /// Other limits from now on.
+    pub fn limit(&mut self, limits: RecordLimits)
+        ensures records { self.new.records ≡ self.old.records }
+        ensures limits { self.new.limits ≡ limits }
+    {
+        self.limits = limits;
     }
 
     /// Makes room for the entries of a session, no two of one group: then one `begin` of that session, one `add` of these

@@ -6,7 +6,7 @@
 //! list of calls each container that came stands in exactly one record (`containers_stand_once`, `specs/Once`).
 //! `read_record` answers the record at the front, or the octet of the first fault (`specs/Grammar`, `specs/Reading`);
 //! `write_record` writes the one spelling of its element (`specs/Written`), which reads back (`specs/Fitting`), whatever
-//! follows it.
+//! follows it. `by_group` puts the containers of a request in the order that a book asks for.
 //!
 //! How it is built: a record that is not closed (`unclosed`) keeps its containers by rating group (`group`), so that
 //! closing takes no memory, and its sums (`sums`), so that no call walks them; `make_room` takes all memory before. What a
@@ -23,6 +23,7 @@ mod contents;
 mod fields;
 mod filing;
 mod group;
+mod grouping;
 mod laws;
 mod limits;
 mod place;
@@ -36,6 +37,7 @@ mod writing;
 pub use ber::BerRefusal as RecordRefusal;
 pub use book::Book;
 pub use filing::Filing;
+pub use grouping::by_group;
 pub use laws::{containers_stand_once, no_record_begins_another};
 pub use limits::RecordLimits;
 pub use reading::read_record;
