@@ -5,3 +5,4 @@ pub mod Reads
 pub mod Caches
 pub mod Plan
 pub mod Marking
+pub mod Turns

@@ -1,11 +1,13 @@
 -- What of each session is looked for, which is kept for speed beside it: its mark (this product's own).
-use Rattle.std.specs.Prelude.{ℕ, ◌&&◌, not, if◌then◌else◌, Option, Some, None, is_some, List, map, fold, slice_set, slice_index_or}
+use Rattle.std.specs.Prelude.{ℕ, ◌&&◌, not, if◌then◌else◌, Option, Some, None, is_some, List, [], map, fold, slice_set, slice_index_or}
 use Rattle.smf_model.specs.declared.session.Peer.{Peer}
 use Rattle.smf_model.specs.declared.session.Session.{Session}
 use Rattle.smf_model.specs.declared.session.Machine.{Machine}
+use Rattle.smf_model.specs.declared.event.SmfEvent.{SmfEvent}
+use Rattle.smf_model.specs.declared.event.SmfEvent.TheVariants.{Restart}
 use Rattle.smf_model.specs.Sending.{is_past, may_send, next_peer}
 use Rattle.agenda.specs.declared.mark.Mark.{Mark}
-use Rattle.agenda.specs.declared.mark.Search.TheVariants.{Waits}
+use Rattle.agenda.specs.declared.mark.Search.TheVariants.{Waits, Flies}
 use Rattle.agenda.specs.Marks.{quiet, places_from}
 
 -- the attempt that a session may make
@@ -27,6 +29,11 @@ marks_of now sessions = map (mark_of now) sessions
 -- the places of the sessions that wait no more once a moment has come
 abbrev pub woken_by : ℕ → Machine → List ℕ
 woken_by now m = places_from (Waits now) 0 (marks_of m.moment m.sessions)
+
+-- the places of the sessions with an attempt in flight, where an event is a restart, which touches those alone
+abbrev pub flying_for : ℕ → SmfEvent → List Session → List ℕ
+flying_for now Restart sessions = places_from Flies 0 (marks_of now sessions)
+flying_for now other sessions = []
 
 -- marks, of which those at places are made anew
 abbrev pub remarked : List Mark → List ℕ → List Mark → List Mark

@@ -1,11 +1,12 @@
 //! The sessions that an event changes.
-ghost use Rattle.std.specs.Prelude.{◌≡◌, ◌<◌, IfOk, map, length, slice_set};
+ghost use Rattle.std.specs.Prelude.{◌≡◌, ◌<◌, IfOk, OnOk, map, length, slice_set};
 ghost use Rattle.smf_model.specs.Machine.{next_session};
 ghost use Rattle.smf_core.specs.Lookup.{subject};
 ghost use Rattle.smf_core.specs.Index.{AreApart, place_for};
 ghost use Rattle.smf_core.specs.Plan.{changed, sessions_next, turned, NextIsReady, AreReady, IsReadyAt, map_at};
 ghost use Rattle.smf_core.specs.Caches.{KeptAs, numbers_of, sessions_of};
-ghost use Rattle.smf_core.specs.Marking.{marks_of};
+ghost use Rattle.smf_core.specs.Marking.{marks_of, flying_for};
+ghost use Rattle.smf_core.specs.Turns.{mapped_at, AreFrom, IsAt, with_next};
 
 use crate::checks::subject;
 use crate::kept::Kept;
@@ -51,6 +52,8 @@ fn one_change(
     requires { at < length sessions.old }
     ensures made { IfOk result (λ n. sessions_next n (sessions_of sessions.old) ≡ map_at at (next_session setup.now now event.now) (sessions_of sessions.old)) }
     ensures ready { IfOk result (λ n. NextIsReady n sessions.new) }
+    ensures place { IfOk result (λ n. IsAt at n) }
+    ensures others { (k : KeptAs) × (sessions.new ≡ slice_set sessions.old at k) }
     ensures same { sessions_of sessions.new ≡ sessions_of sessions.old }
 {
     let kept = &mut sessions[at];
@@ -61,15 +64,74 @@ fn one_change(
     Ok(Next::One(Turn { at, change }))
 }
 
-/// The sessions that an event changes, where this is the place of its own.
+// One more change, if there is one.
+fn push_next(turns: &mut Vec<Turn>, next: Next) -> Result<(), OutOfMemory>
+    ensures { OnOk result (turns.new.items ≡ with_next turns.old.items next) }
+{
+    match next {
+        Next::One(turn) => turns.push(turn)?,
+        Next::Nothing | Next::Several(_) => {}
+    }
+    Ok(())
+}
+
+// What an event makes of the sessions at places.
+fn turns_at(
+    alloc: Global,
+    setup: &SmfSetup,
+    now: Moment,
+    event: &SmfEvent,
+    places: &[usize],
+    sessions: &mut [Kept],
+) -> Result<Vec<Turn>, OutOfMemory>
+    requires { AreFrom 0 places.now }
+    ensures made { IfOk result (λ v. turned v.items (sessions_of sessions.old) ≡ mapped_at (next_session setup.now now event.now) (sessions_of sessions.old) places.now) }
+    ensures ready { IfOk result (λ v. AreReady v.items sessions.new) }
+    ensures same { sessions_of sessions.new ≡ sessions_of sessions.old }
+{
+    let mut turns = Vec::new(alloc);
+    for at in places {
+        let at = *at;
+        if at >= sessions.len() {
+            continue;
+        }
+        let next = one_change(alloc, setup, now, event, at, sessions)?;
+        push_next(&mut turns, next)?;
+    }
+    Ok(turns)
+}
+
+// What a tick makes of each session, and a restart of those with an attempt in flight.
+fn several_turns(
+    alloc: Global,
+    setup: &SmfSetup,
+    now: Moment,
+    event: &SmfEvent,
+    flying: &[usize],
+    sessions: &mut [Kept],
+) -> Result<Vec<Turn>, OutOfMemory>
+    requires { flying.now ≡ flying_for now event.now (sessions_of sessions.old) }
+    ensures made { IfOk result (λ v. turned v.items (sessions_of sessions.old) ≡ map (next_session setup.now now event.now) (sessions_of sessions.old)) }
+    ensures ready { IfOk result (λ v. AreReady v.items sessions.new) }
+    ensures same { sessions_of sessions.new ≡ sessions_of sessions.old }
+{
+    match event {
+        SmfEvent::Restart => turns_at(alloc, setup, now, event, flying, sessions),
+        _ => all_turns(alloc, setup, now, event, sessions),
+    }
+}
+
+/// The sessions that an event changes, where this is the place of its own, and these are in flight where it is a restart.
 pub fn next_turns(
     alloc: Global,
     setup: &SmfSetup,
     now: Moment,
     event: &SmfEvent,
     place: Option<usize>,
+    flying: &[usize],
     sessions: &mut [Kept],
 ) -> Result<Next, OutOfMemory>
+    requires flying { flying.now ≡ flying_for now event.now (sessions_of sessions.old) }
     requires place { place ≡ place_for (subject event.now) (numbers_of (sessions_of sessions.old)) }
     requires apart { AreApart (numbers_of (sessions_of sessions.old)) }
     ensures made { IfOk result (λ n. sessions_next n (sessions_of sessions.old) ≡ map (next_session setup.now now event.now) (sessions_of sessions.old)) }
@@ -78,7 +140,7 @@ pub fn next_turns(
 {
     match subject(event) {
         None => {
-            let turns = all_turns(alloc, setup, now, event, sessions)?;
+            let turns = several_turns(alloc, setup, now, event, flying, sessions)?;
             Ok(Next::Several(List::from_vec(turns)))
         }
         Some(_) => match place {

@@ -8,7 +8,7 @@ ghost use Rattle.smf_model.specs.Sending.{send_of};
 ghost use Rattle.smf_core.specs.Reads.{request_in, flight_in, gate_at, expected_at, containers_in, held_in, holdings_in};
 ghost use Rattle.smf_core.specs.Plan.{added_in, applied, AddedIsReady, IsPlanOf, IsReady, IsRefused, NextIsReady, Takes};
 ghost use Rattle.smf_core.specs.Caches.{sessions_of, IsTied};
-ghost use Rattle.smf_core.specs.Marking.{woken_by};
+ghost use Rattle.smf_core.specs.Marking.{flying_for, woken_by};
 
 use crate::checks::{check_missing, subject};
 use crate::index::Index;
@@ -172,16 +172,31 @@ impl Smf {
         Ok(List::from_vec(places))
     }
 
+    // The places of the sessions with an attempt in flight, where an event is a restart.
+    fn flying(&self, alloc: Global, event: &SmfEvent) -> Result<List<usize>, OutOfMemory>
+        ensures { IfOk result (λ r. r ≡ flying_for (now_after self.now.machine.moment event.now) event.now self.now.machine.sessions) }
+    {
+        match event {
+            SmfEvent::Restart => {
+                let places = self.agenda.places(alloc, &Search::Flies)?;
+                Ok(List::from_vec(places))
+            }
+            _ => Ok(List::new(alloc)),
+        }
+    }
+
     // The plan of a new event.
     fn plan_new(
         &mut self,
         alloc: Global,
         event: &SmfEvent,
         woken: List<usize>,
+        flying: &[usize],
     ) -> Result<SmfPlan, OutOfMemory>
         requires new { answer_of self.old.machine event.now ≡ Ok New }
         requires room { 0 < self.old.room }
         requires woken { woken ≡ woken_by (now_after self.old.machine.moment event.now) self.old.machine }
+        requires flying { flying.now ≡ flying_for (now_after self.old.machine.moment event.now) event.now self.old.machine.sessions }
         ensures made { IfOk result (λ p. applied p self.old.machine ≡ stepped self.old.machine event.now) }
         ensures seen { IfOk result (λ p. p.seen ≡ New) }
         ensures next { IfOk result (λ p. NextIsReady p.next self.new.kept) }
@@ -193,7 +208,15 @@ impl Smf {
         let now = moment_after(self.moment, event);
         let added = added_kept(alloc, &self.setup, now, event)?;
         let place = self.index.place(subject(event));
-        let next = next_turns(alloc, &self.setup, now, event, place, &mut self.sessions)?;
+        let next = next_turns(
+            alloc,
+            &self.setup,
+            now,
+            event,
+            place,
+            flying,
+            &mut self.sessions,
+        )?;
         Ok(SmfPlan {
             seen: Seen::New,
             moment: now,
@@ -234,8 +257,9 @@ impl Smf {
             Seen::Known => Ok(self.plan_known(alloc)),
             Seen::New => {
                 let woken = self.woken(alloc, event)?;
+                let flying = self.flying(alloc, event)?;
                 self.make_room(alloc)?;
-                let plan = self.plan_new(alloc, event, woken)?;
+                let plan = self.plan_new(alloc, event, woken, flying.as_slice())?;
                 Ok(plan)
             }
         }
