@@ -116,4 +116,43 @@ for n in range(14): deep = con(2000 if n == 3 else 4, [deep])
 good(con(200, order + [deep]), 1, R)                                             # 16 within each other
 o = con(200, order + [con(4, [deep])])
 row(o, "!%d" % (len(o) - 2))                                                     # the 17th is the last element, of two octets
-print("\n".join(rows))
+# the record of the run of a Create, an Update and a Release: 212 octets
+two = [used(1, 60, 400000, 500000, "260102032000", "260102032000", ("QUOTA_THRESHOLD",), "260102032000"),
+       used(2, 5, 0, 100000, "260102033000", "260102033000", ("FINAL",), "260102033000")]
+g = fields([usage(10, two)]); g[7] = num(7, 1555)
+assert body(g).hex().startswith("bf814881cf800200c8") and len(body(g)) == 212
+good(body(g))
+for end in range(len(R)): row(R[:end], "!0")    # cut at each octet: the record goes past the end
+def indefinite(octets):                         # the same elements with indefinite lengths, each with its start, its contents' start and those in it
+    def walk(at, end, place):
+        made, spans = b"", []
+        while at < end:
+            start = at; at += 1
+            if octets[start] % 32 == 31:
+                while octets[at] >= 128: at += 1
+                at += 1
+            head = octets[start:at]; size = octets[at]; at += 1
+            if size > 128: count = size - 128; size = int.from_bytes(octets[at:at + count], "big"); at += count
+            begins = place + len(made)
+            if head[0] & 32:
+                inner, within = walk(at, at + size, begins + len(head) + 1)
+                made += head + b"\x80" + inner + b"\0\0"
+                spans.append((begins, begins + len(head) + 1, within, place + len(made)))
+            else:
+                made += octets[start:at + size]
+                spans.append((begins, None, [], place + len(made)))
+            at += size
+        return made, spans
+    return walk(0, len(octets), 0)
+def cut(span, end):                             # the fault of the element that is not whole
+    start, contents, within, last = span
+    if contents is None or end < contents: return start
+    for other in within:
+        if end == other[0]: return start        # the end of contents is missing
+        if end < other[3]: return cut(other, end)
+    return start if end == last - 2 else last - 2
+open_ended, (span,) = indefinite(R)
+good(open_ended, 0, R)
+for end in range(len(open_ended)): row(open_ended[:end], "!%d" % cut(span, end))
+answers = dict(line.split("\t")[1:] for line in rows)
+if __name__ == "__main__": print("\n".join(rows))

@@ -2,8 +2,8 @@
 """tables.py: works the last column of crates/acceptance/stdin out anew, by models that know nothing of the program, and
 writes the counts of crates/acceptance/stdout. A new case is a line of stdin with anything in its last column. The
 tables once, quota, events, many-events, devices, door, link, clock, loopback, journal and file-disk have answers by
-hand, and those of record are of records.py; their lines stay as they are. With --check nothing is written, and a line
-whose answer is another is a failure.
+hand; their lines stay as they are. Those of record are the lines that records.py makes. With --check nothing is
+written, and a line whose answer is another is a failure.
 """
 import sys
 from pathlib import Path
@@ -12,6 +12,7 @@ import charging_trigger
 import elements
 import http_messages
 import messages
+import records
 import reports
 import times
 
@@ -50,8 +51,8 @@ def reply(status, location, body):
 
 MODELS = {
     "time": time, "stamp": stamp, "request": request, "reply": reply, "element": elements.element,
-    "length": elements.length, "meter": reports.meter, "sending": charging_trigger.row, "http-request": http_messages.requests,
-    "http-response": http_messages.responses, "http-cuts": http_messages.cuts}
+    "length": elements.length, "record": records.answers.get, "meter": reports.meter, "sending": charging_trigger.row,
+    "http-request": http_messages.requests, "http-response": http_messages.responses, "http-cuts": http_messages.cuts}
 
 
 def main():

@@ -1,6 +1,6 @@
 -- What is kept of a session stays right: when a change is made for it, and when that is taken.
-use Rattle.std.proofs.Common.{◌≡◌, ℕ, ◌+◌, ◌-◌, ◌≤◌, List, [], ◌∷◌, ◌++◌, length, filter, sym, ◌∙◌, ap, subst, arith, append-nil, append_assoc, zero-add}
-use Rattle.std.specs.Prelude.{Option, Some, None, Result, Ok, Err, IfOk}
+use Rattle.std.proofs.Common.{◌≡◌, ℕ, ◌+◌, ◌-◌, ◌≤◌, List, length, filter, sym, ◌∙◌, ap, subst, arith, zero-add}
+use Rattle.std.specs.Prelude.{Result, Ok, Err, IfOk}
 use Rattle.std.proofs.lemmas.List.{length-map}
 use Rattle.units.specs.declared.report.Container.{Container}
 use Rattle.smf_model.specs.declared.setup.SmfSetup.{SmfSetup}

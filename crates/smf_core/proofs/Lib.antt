@@ -7,3 +7,4 @@ pub mod KeptRight
 pub mod Turns
 pub mod Nexts
 pub mod Found
+pub mod Marked

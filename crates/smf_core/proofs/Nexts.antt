@@ -1,9 +1,8 @@
 -- The sessions that an event changes, and their changes.
-use Rattle.std.proofs.Common.{◌≡◌, ℕ, zero, suc, ◌+◌, ◌-◌, ◌<◌, ◌≤◌, ◌==◌, ◌&&◌, ◌||◌, List, [], ◌∷◌, ◌++◌, length, map, take, get_or, set, refl, sym, ◌∙◌, ap, subst, arith, Bool, true, false, cond, add-one}
+use Rattle.std.proofs.Common.{◌≡◌, ℕ, zero, suc, ◌+◌, ◌-◌, ◌<◌, ◌≤◌, ◌==◌, ◌&&◌, ◌||◌, List, [], ◌∷◌, length, map, get_or, set, refl, sym, ◌∙◌, ap, subst, arith, Bool, true, false, cond}
 use Rattle.std.specs.Prelude.{Some, None}
 use Rattle.std.specs.List.{list_any, position_from}
-use Rattle.std.proofs.Math.Seq.{take-suc-set}
-use Rattle.std.proofs.lemmas.List.{take_more, length-take, length-map, map-append}
+use Rattle.std.proofs.lemmas.List.{length-map}
 use Rattle.std.proofs.lemmas.Bool.{eqb-true}
 use Rattle.smf_model.specs.declared.setup.SmfSetup.{SmfSetup}
 use Rattle.smf_model.specs.declared.session.Session.{Session}
@@ -15,7 +14,7 @@ use Rattle.smf_core.proofs.Indexed.{absent}
 use Rattle.smf_core.specs.Index.{place_in, AreApart, place_for}
 use Rattle.smf_core.specs.Lookup.{subject}
 use Rattle.smf_core.specs.Caches.{KeptAs, numbers_of, sessions_of, stepped_by}
-use Rattle.smf_core.specs.Plan.{changed, map_at, IsReadyFor, IsReadyAt, Fits}
+use Rattle.smf_core.specs.Plan.{map_at, IsReadyFor, IsReadyAt, Fits}
 
 -- a session at a place
 

@@ -1,5 +1,5 @@
 -- What an event makes of a session is what it makes of the part of it that is kept; the containers that are held no more stay.
-use Rattle.std.proofs.Common.{◌≡◌, ℕ, ◌+◌, ◌-◌, ◌≤◌, ◌==◌, ◌&&◌, ◌||◌, List, [], ◌∷◌, ◌++◌, length, map, filter, refl, sym, ◌∙◌, ap, arith, Bool, true, false, cond}
+use Rattle.std.proofs.Common.{◌≡◌, ℕ, ◌+◌, ◌-◌, ◌≤◌, ◌==◌, ◌&&◌, ◌||◌, List, [], ◌∷◌, ◌++◌, length, map, filter, refl, ◌∙◌, ap, arith, Bool, true, false, cond}
 use Rattle.std.specs.Prelude.{Option, Some, None, is_some}
 use mathlib.Core.Path.{fun_ext}
 use Rattle.std.specs.List.{list_any}
@@ -29,10 +29,10 @@ use Rattle.smf_model.specs.Rules.{is_immediate, is_immediate_for}
 use Rattle.std.proofs.lemmas.List.{length-map}
 use Rattle.smf_model.specs.Settle.{is_open, is_frozen, is_open_of, open_of, container_in, entry_of, due_with, due_in, due_at, fire, close, close_due, is_at_once, settled}
 use Rattle.smf_model.specs.Freeze.{waiting_count, move_oldest, dropped, live_operation, ending_operation, operation_in, next_operation, used_of, usages, usage_of, says_something, request_of, with_request, freeze_by, freeze_due}
-use Rattle.smf_model.specs.Traffic.{horizon_in, closes_before, close_of, extend_of, first_of, joined, started, counted, counted_by, close_any, has_open, is_change_at_once, changed, without_traffic, detached, ended, give_up, ended_for}
+use Rattle.smf_model.specs.Traffic.{horizon_in, closes_before, close_of, extend_of, first_of, joined, counted, counted_by, close_any, has_open, is_change_at_once, changed, without_traffic, detached, ended, give_up, ended_for}
 use Rattle.smf_model.specs.Sending.{at_rest, latest_peer, with_peer}
 use Rattle.smf_model.specs.Rounds.{is_continue, with_loss, is_last, next_turn, next_round, continue_entry, broken_off, after_round, lost}
-use Rattle.smf_model.specs.Replies.{answer_holding, succeeded, released, replied, answered_by}
+use Rattle.smf_model.specs.Replies.{answer_holding, succeeded, replied, answered_by}
 use Rattle.smf_model.specs.Machine.{effect, finished}
 use Rattle.smf_core.specs.Draft.{joined_past, counted_past, effect_past}
 use Rattle.smf_core.specs.Reads.{is_held}

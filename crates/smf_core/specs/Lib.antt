@@ -4,3 +4,4 @@ pub mod Lookup
 pub mod Reads
 pub mod Caches
 pub mod Plan
+pub mod Marking

@@ -14,6 +14,7 @@ use Rattle.smf_model.specs.Machine.{answer_of, step}
 use Rattle.smf_core.specs.Index.{place_in}
 use Rattle.smf_core.specs.Reads.{is_held, containers_of}
 use Rattle.smf_core.specs.Caches.{merged, places_from, session_with, KeptAs, numbers_of}
+use Rattle.smf_core.specs.Marking.{woken_by}
 
 -- a session as a change leaves it
 abbrev pub changed : Change → Session → Session
@@ -97,12 +98,14 @@ AddedIsReady None sessions room = Unit {0}
 AddedIsReady (Some k) sessions room = (place_in (numbers_of sessions) k.session.number ≡ None) × (0 < room)
 
 -- a plan is of this machine as it stands: it is that of some event at it, each of its changes fits to the session at its place, no
--- session has the number of the one that it adds, and there is room for what they open and add
+-- session has the number of the one that it adds, and there is room for what they open and add; it names the sessions that wait no more
 pub record IsReady (plan : SmfPlan) (s : Shown) : Type 0 where
   pub event : SmfEvent
   pub made : IsPlanOf plan s.machine event
   pub next : NextIsReady plan.next s.kept
   pub added : AddedIsReady plan.added s.machine.sessions s.room
+  pub later : s.machine.moment ≤ plan.moment
+  pub woken : plan.woken ≡ woken_by plan.moment s.machine
 
 -- where a plan is that of an event, the machine took that event's step
 abbrev pub Takes : SmfPlan → Machine → Machine → Type 0

@@ -3,17 +3,20 @@ ghost use Rattle.std.specs.Prelude.{◌≡◌, ◌<◌, ◌≤◌, ◌+◌, IfOk
 ghost use Rattle.std.specs.Option.{option_copied};
 ghost use Rattle.smf_model.specs.Machine.{touches, effect, finished, gate_for, expected_of};
 ghost use Rattle.smf_core.specs.Lookup.{answer_at};
-ghost use Rattle.smf_model.specs.Sending.{sooner, flight_of};
+ghost use Rattle.smf_model.specs.Sending.{flight_of};
 ghost use Rattle.smf_core.specs.Reads.{is_held, containers_of, held_of};
+ghost use Rattle.smf_core.specs.Marking.{mark_of};
 ghost use Rattle.smf_core.specs.Plan.{changed, Fits};
 ghost use Rattle.smf_core.specs.Caches.{put_places, places_from, rules_left, after_change};
 
 use crate::change::{change_of, containers_from, held_from, is_held_holding};
 use crate::checks::{check_found, expected, gate};
 use crate::draft::{Course, Pending, request_left};
+use crate::marks::mark;
 use crate::plan::Change;
-use crate::sending::{in_flight, sooner_of};
+use crate::sending::in_flight;
 use crate::step::is_touched;
+use agenda::Mark;
 use quotas::Gate;
 use smf_model::{Entry, Holding, Peer, Rule, Seen, Session, SmfEvent, SmfRefusal, SmfSetup};
 use std::alloc::Global;
@@ -142,21 +145,14 @@ impl Kept {
         check_found(now, next, event, &self.session)
     }
 
-    /// What sends so far, with it.
-    pub fn sooner(&self, now: Moment, best: Option<(u32, Peer)>) -> Option<(u32, Peer)>
-        ensures { result ≡ sooner now best self.now.session }
+    /// What of it is looked for.
+    pub fn mark(&self, now: Moment) -> Mark
+        ensures { result ≡ mark_of now self.now.session }
     {
-        sooner_of(now, best, &self.session)
+        mark(now, &self.session)
     }
 
-    /// Whether an attempt of its unanswered request has no end.
-    pub fn flies(&self) -> bool
-        ensures { result ≡ self.now.session.sending.in_flight }
-    {
-        self.session.sending.in_flight
-    }
-
-    /// The peer of that attempt, `None` exactly where there is none.
+    /// The peer of the attempt of its unanswered request that has no end, `None` exactly where there is none.
     pub fn in_flight(&self) -> Option<Peer>
         ensures { result ≡ flight_of self.now.session }
     {
@@ -244,6 +240,13 @@ impl Kept {
         ensures { result ≡ expected_of group self.now.session }
     {
         expected(&self.session, group)
+    }
+
+    /// Its containers with what closed each and where it is, in order of their numbers.
+    pub fn holdings(&self) -> &[Holding]
+        ensures { result.now ≡ self.now.session.holdings }
+    {
+        self.holdings.as_slice()
     }
 
     /// Its containers, in order of their numbers.

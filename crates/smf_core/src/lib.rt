@@ -6,7 +6,8 @@
 //! How it is kept: each session keeps beside all its containers those that are held, with their places, and an
 //! event works on these alone, through a `Draft`, which makes a `Change` that `Kept::take` writes without memory.
 //! `merged` (`specs/Caches`) says how the held ones stand for the whole session; each function of an event goes
-//! through it.
+//! through it. What sends next is read from an agenda of the sessions' marks (`specs/Marking`), which `commit` sets
+//! anew where a session changes or waits no more.
 //!
 //! Where a rule goes: its meaning into `smf_model`; a check into `answer_at` (`specs/Lookup`) and `checks`; an effect
 //! into a file beside `counting`, `changes` and `ending`; a trigger's limit into `rules`; what a request holds into `freeze`. Each is one more
@@ -25,6 +26,7 @@ mod ending;
 mod freeze;
 mod index;
 mod kept;
+mod marks;
 mod next;
 mod plan;
 mod rounds;
@@ -36,4 +38,4 @@ mod step;
 
 pub use plan::SmfPlan;
 pub use smf::Smf;
-pub use smf_model::{Peer, Seen, SmfEvent, SmfRefusal, SmfSetup};
+pub use smf_model::{Holding, Peer, Place, Seen, SmfEvent, SmfRefusal, SmfSetup, Why};

@@ -1,16 +1,17 @@
 //! The sessions that an event changes.
 ghost use Rattle.std.specs.Prelude.{◌≡◌, ◌<◌, IfOk, map, length, slice_set};
-ghost use Rattle.smf_model.specs.Machine.{next_session, any_flies};
-ghost use Rattle.smf_model.specs.Sending.{send_of};
+ghost use Rattle.smf_model.specs.Machine.{next_session};
 ghost use Rattle.smf_core.specs.Lookup.{subject};
 ghost use Rattle.smf_core.specs.Index.{AreApart, place_for};
 ghost use Rattle.smf_core.specs.Plan.{changed, sessions_next, turned, NextIsReady, AreReady, IsReadyAt, map_at};
 ghost use Rattle.smf_core.specs.Caches.{KeptAs, numbers_of, sessions_of};
+ghost use Rattle.smf_core.specs.Marking.{marks_of};
 
 use crate::checks::subject;
 use crate::kept::Kept;
 use crate::plan::{Change, Next, Turn};
-use smf_model::{Peer, SmfEvent, SmfSetup};
+use agenda::Agenda;
+use smf_model::{SmfEvent, SmfSetup};
 use std::alloc::Global;
 use units::{List, Moment, OutOfMemory};
 
@@ -88,63 +89,51 @@ pub fn next_turns(
 }
 
 // The session at a place takes its change.
-fn take_at(sessions: &mut [Kept], at: usize, change: Change)
-    requires { IsReadyAt at change sessions.old }
+fn take_at(agenda: &mut Agenda, now: Moment, sessions: &mut [Kept], at: usize, change: Change)
+    requires ready { IsReadyAt at change sessions.old }
+    requires marks { agenda.old.marks ≡ marks_of now (sessions_of sessions.old) }
     ensures value { sessions_of sessions.new ≡ map_at at (changed change) (sessions_of sessions.old) }
     ensures others { (k : KeptAs) × (sessions.new ≡ slice_set sessions.old at k) }
+    ensures marks { agenda.new.marks ≡ marks_of now (sessions_of sessions.new) }
+    ensures room { agenda.new.room ≡ agenda.old.room }
 {
     if at >= sessions.len() {
         return;
     }
-    sessions[at].take(change);
+    let kept = &mut sessions[at];
+    kept.take(change);
+    agenda.set(at, kept.mark(now));
 }
 
 // Each session takes its change.
-fn take_all(sessions: &mut [Kept], turns: List<Turn>)
-    requires { AreReady turns sessions.old }
-    ensures { sessions_of sessions.new ≡ turned turns (sessions_of sessions.old) }
+fn take_all(agenda: &mut Agenda, now: Moment, sessions: &mut [Kept], turns: List<Turn>)
+    requires ready { AreReady turns sessions.old }
+    requires marks { agenda.old.marks ≡ marks_of now (sessions_of sessions.old) }
+    ensures value { sessions_of sessions.new ≡ turned turns (sessions_of sessions.old) }
+    ensures marks { agenda.new.marks ≡ marks_of now (sessions_of sessions.new) }
+    ensures room { agenda.new.room ≡ agenda.old.room }
 {
     let mut turns = turns.into_vec();
     while let Some(turn) = turns.pop() {
         let Turn { at, change } = turn;
-        take_at(sessions, at, change);
+        take_at(agenda, now, sessions, at, change);
     }
 }
 
-/// The sessions that an event changes take their changes.
-pub fn take_next(sessions: &mut [Kept], next: Next)
-    requires { NextIsReady next sessions.old }
-    ensures { sessions_of sessions.new ≡ sessions_next next (sessions_of sessions.old) }
+/// The sessions that an event changes take their changes, and their marks are as they are then.
+pub fn take_next(agenda: &mut Agenda, now: Moment, sessions: &mut [Kept], next: Next)
+    requires ready { NextIsReady next sessions.old }
+    requires marks { agenda.old.marks ≡ marks_of now (sessions_of sessions.old) }
+    ensures value { sessions_of sessions.new ≡ sessions_next next (sessions_of sessions.old) }
+    ensures marks { agenda.new.marks ≡ marks_of now (sessions_of sessions.new) }
+    ensures room { agenda.new.room ≡ agenda.old.room }
 {
     match next {
         Next::Nothing => {}
         Next::One(turn) => {
             let Turn { at, change } = turn;
-            take_at(sessions, at, change)
+            take_at(agenda, now, sessions, at, change)
         }
-        Next::Several(turns) => take_all(sessions, turns),
+        Next::Several(turns) => take_all(agenda, now, sessions, turns),
     }
-}
-
-/// What sends next: the least session that may send, and the next peer of its round.
-pub fn next_to_send(now: Moment, sessions: &[Kept]) -> Option<(u32, Peer)>
-    ensures { result ≡ send_of now (sessions_of sessions.now) }
-{
-    let mut best = None;
-    for kept in sessions {
-        best = kept.sooner(now, best);
-    }
-    best
-}
-
-/// Whether an attempt is in flight.
-pub fn any_in_flight(sessions: &[Kept]) -> bool
-    ensures { result ≡ any_flies (sessions_of sessions.now) }
-{
-    for kept in sessions {
-        if kept.flies() {
-            return true;
-        }
-    }
-    false
 }

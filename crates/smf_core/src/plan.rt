@@ -49,4 +49,6 @@ pub struct SmfPlan {
     pub(crate) moment: Moment,
     pub(crate) next: Next,
     pub(crate) added: Option<Kept>,
+    /// The places of the sessions that wait no more.
+    pub(crate) woken: List<usize>,
 }

@@ -1,7 +1,7 @@
 //! Attempts to send the unanswered request of a session.
 ghost use Rattle.std.specs.Prelude.{◌≡◌, ◌==◌, ◌&&◌, OnOk};
 ghost use Rattle.smf_core.specs.Draft.{whole};
-ghost use Rattle.smf_model.specs.Sending.{at_rest as resting, other_peer, same_peer, second_peer, next_peer, is_past, may_send, is_below, sooner, is_send, flight_of, attempted, latest_peer};
+ghost use Rattle.smf_model.specs.Sending.{at_rest as resting, other_peer, same_peer, second_peer, next_peer, is_past, may_send, is_send, flight_of, attempted, latest_peer};
 
 use crate::draft::{Draft, Pending, request_of};
 use smf_model::{Peer, Sending, Session};
@@ -44,8 +44,8 @@ fn second(failover: bool, peer: Peer) -> Peer
     if failover { other(peer) } else { peer }
 }
 
-// The next peer of a session's round.
-fn next_of_round(session: &Session) -> Peer
+/// The next peer of a session's round.
+pub fn next_of_round(session: &Session) -> Peer
     ensures { result ≡ next_peer session.now }
 {
     if session.sending.turn == 0 {
@@ -55,7 +55,8 @@ fn next_of_round(session: &Session) -> Peer
     }
 }
 
-fn has_come(now: Moment, wait: Option<Moment>) -> bool
+/// Whether a waiting moment, if there is one, has come.
+pub fn has_come(now: Moment, wait: Option<Moment>) -> bool
     ensures { result ≡ is_past now wait }
 {
     match wait {
@@ -69,26 +70,6 @@ pub fn may_send(now: Moment, session: &Session) -> bool
     ensures { result ≡ may_send now session.now }
 {
     session.request.is_some() && !session.sending.in_flight && has_come(now, session.sending.wait)
-}
-
-fn is_first(number: u32, best: Option<(u32, Peer)>) -> bool
-    ensures { result ≡ is_below number best }
-{
-    match best {
-        None => true,
-        Some((least, _)) => number < least,
-    }
-}
-
-/// What sends so far, with one more session.
-pub fn sooner_of(now: Moment, best: Option<(u32, Peer)>, session: &Session) -> Option<(u32, Peer)>
-    ensures { result ≡ sooner now best session.now }
-{
-    if may_send(now, session) && is_first(session.number, best) {
-        Some((session.number, next_of_round(session)))
-    } else {
-        best
-    }
 }
 
 /// Whether that is this session, and to this peer.

@@ -1,25 +1,28 @@
 //! The machine: an event is planned, and then committed.
-ghost use Rattle.std.specs.Prelude.{◌≡◌, ◌<◌, ◌-◌, ◌++◌, [], IfOk, IfErr, OnOk, min, map, option_map, length, slice_get, vec_len, vec_capacity};
+ghost use Rattle.std.specs.Prelude.{◌≡◌, ◌<◌, ◌≤◌, ◌-◌, ◌++◌, [], IfOk, IfErr, OnOk, min, map, option_map, length, slice_get, vec_len, vec_capacity};
 ghost use Rattle.std.specs.Option.{option_copied};
 ghost use Rattle.smf_model.specs.declared.refusal.Seen.TheVariants.{New, Known as AlreadyKnown};
-ghost use Rattle.smf_model.specs.Machine.{answer_of, added_by, empty, session_of, stepped};
+ghost use Rattle.smf_model.specs.Machine.{answer_of, added_by, any_flies, empty, now_after, session_of, stepped};
 ghost use Rattle.smf_core.specs.Lookup.{session_for, next_for, flies_for};
 ghost use Rattle.smf_model.specs.Sending.{send_of};
-ghost use Rattle.smf_core.specs.Reads.{request_in, flight_in, gate_at, expected_at, containers_in, held_in};
+ghost use Rattle.smf_core.specs.Reads.{request_in, flight_in, gate_at, expected_at, containers_in, held_in, holdings_in};
 ghost use Rattle.smf_core.specs.Plan.{added_in, applied, AddedIsReady, IsPlanOf, IsReady, IsRefused, NextIsReady, Takes};
-ghost use Rattle.smf_core.specs.Caches.{numbers_of, sessions_of};
+ghost use Rattle.smf_core.specs.Caches.{sessions_of, IsTied};
+ghost use Rattle.smf_core.specs.Marking.{woken_by};
 
 use crate::checks::{check_missing, subject};
 use crate::index::Index;
 use crate::kept::Kept;
-use crate::next::{any_in_flight, next_to_send, next_turns, take_next};
+use crate::marks::wake;
+use crate::next::{next_turns, take_next};
 use crate::plan::{Next, SmfPlan};
 use crate::step::{added_session, moment_after};
+use agenda::{Agenda, Search};
 use quotas::Gate;
-use smf_model::{Peer, Seen, SmfEvent, SmfRefusal, SmfSetup, copy_setup};
+use smf_model::{Holding, Peer, Seen, SmfEvent, SmfRefusal, SmfSetup, copy_setup};
 use std::alloc::Global;
 use std::marker::Model;
-use units::{Container, Moment, OutOfMemory, Request};
+use units::{Container, List, Moment, OutOfMemory, Request};
 
 fn kept_at(sessions: &[Kept], at: usize) -> Option<&Kept>
     ensures { option_copied result ≡ slice_get sessions.now at }
@@ -46,14 +49,21 @@ fn added_kept(
 }
 
 // The session that is added takes its place.
-fn add(index: &mut Index, sessions: &mut Vec<Kept>, added: Option<Kept>)
-    requires numbers { index.old.numbers ≡ numbers_of (sessions_of sessions.old.items) }
-    requires ready { AddedIsReady added (sessions_of sessions.old.items) (min (vec_capacity sessions.old - vec_len sessions.old) index.old.room) }
-    ensures numbers { index.new.numbers ≡ numbers_of (sessions_of sessions.new.items) }
+fn add(
+    index: &mut Index,
+    agenda: &mut Agenda,
+    now: Moment,
+    sessions: &mut Vec<Kept>,
+    added: Option<Kept>,
+)
+    requires tied { IsTied index.old.numbers agenda.old.marks now (sessions_of sessions.old.items) }
+    requires ready { AddedIsReady added (sessions_of sessions.old.items) (min (vec_capacity sessions.old - vec_len sessions.old) (min index.old.room agenda.old.room)) }
+    ensures tied { IsTied index.new.numbers agenda.new.marks now (sessions_of sessions.new.items) }
     ensures sessions { sessions_of sessions.new.items ≡ sessions_of sessions.old.items ++ added_in added }
 {
     if let Some(kept) = added {
         index.add(kept.number());
+        agenda.add(kept.mark(now));
         sessions.push_reserved(kept);
     }
 }
@@ -65,18 +75,19 @@ pub struct Smf {
     moment: Moment,
     index: Index,
     sessions: Vec<Kept>,
+    agenda: Agenda,
 }
 
 impl Model for Smf {
     ghost use Rattle.std.specs.Prelude.{◌≡◌, ◌-◌, min, vec_len, vec_capacity};
-    ghost use Rattle.smf_core.specs.Caches.{numbers_of, sessions_of};
+    ghost use Rattle.smf_core.specs.Caches.{sessions_of, IsTied};
     ghost use Rattle.smf_core.specs.Plan.{Shown};
 
     ghost Value = { Shown };
 
-    ghost view = { λ s. record { machine = record { setup = s.setup; moment = s.moment; sessions = sessions_of s.sessions.items }; kept = s.sessions.items; room = min (vec_capacity s.sessions - vec_len s.sessions) s.index.room } };
+    ghost view = { λ s. record { machine = record { setup = s.setup; moment = s.moment; sessions = sessions_of s.sessions.items }; kept = s.sessions.items; room = min (vec_capacity s.sessions - vec_len s.sessions) (min s.index.room s.agenda.room) } };
 
-    ghost invariant = { λ s. s.index.numbers ≡ numbers_of (sessions_of s.sessions.items) };
+    ghost invariant = { λ s. IsTied s.index.numbers s.agenda.marks s.moment (sessions_of s.sessions.items) };
 }
 
 impl Smf {
@@ -90,6 +101,7 @@ impl Smf {
             moment: Moment::first(),
             index: Index::new(alloc),
             sessions: Vec::new(alloc),
+            agenda: Agenda::new(alloc),
         })
     }
 
@@ -107,17 +119,24 @@ impl Smf {
         ensures { result ≡ next_for self.now.machine.moment self.now.machine.sessions event.now }
     {
         match event {
-            SmfEvent::Attempt { .. } => next_to_send(self.moment, &self.sessions),
+            SmfEvent::Attempt { .. } => self.next_send(),
             _ => None,
         }
     }
 
-    // Whether an attempt is in flight, where an event is a restart.
+    // Whether an attempt is in flight.
+    fn flies(&self) -> bool
+        ensures { result ≡ any_flies self.now.machine.sessions }
+    {
+        self.agenda.all().flies
+    }
+
+    // Whether one is, where an event is a restart.
     fn flies_for(&self, event: &SmfEvent) -> bool
         ensures { result ≡ flies_for self.now.machine.sessions event.now }
     {
         match event {
-            SmfEvent::Restart => any_in_flight(&self.sessions),
+            SmfEvent::Restart => self.flies(),
             _ => false,
         }
     }
@@ -134,23 +153,41 @@ impl Smf {
     }
 
     // Makes room for one more session.
-    fn make_room(&mut self) -> Result<(), OutOfMemory>
+    fn make_room(&mut self, alloc: Global) -> Result<(), OutOfMemory>
         ensures machine { self.new.machine ≡ self.old.machine }
         ensures room { OnOk result (0 < self.new.room) }
     {
         self.sessions.reserve(1)?;
         self.index.make_room()?;
+        self.agenda.make_room(alloc)?;
         Ok(())
     }
 
+    // The places of the sessions that wait no more once an event has come.
+    fn woken(&self, alloc: Global, event: &SmfEvent) -> Result<List<usize>, OutOfMemory>
+        ensures { IfOk result (λ r. r ≡ woken_by (now_after self.now.machine.moment event.now) self.now.machine) }
+    {
+        let now = moment_after(self.moment, event);
+        let places = self.agenda.places(alloc, &Search::Waits(now))?;
+        Ok(List::from_vec(places))
+    }
+
     // The plan of a new event.
-    fn plan_new(&mut self, alloc: Global, event: &SmfEvent) -> Result<SmfPlan, OutOfMemory>
+    fn plan_new(
+        &mut self,
+        alloc: Global,
+        event: &SmfEvent,
+        woken: List<usize>,
+    ) -> Result<SmfPlan, OutOfMemory>
         requires new { answer_of self.old.machine event.now ≡ Ok New }
         requires room { 0 < self.old.room }
+        requires woken { woken ≡ woken_by (now_after self.old.machine.moment event.now) self.old.machine }
         ensures made { IfOk result (λ p. applied p self.old.machine ≡ stepped self.old.machine event.now) }
         ensures seen { IfOk result (λ p. p.seen ≡ New) }
         ensures next { IfOk result (λ p. NextIsReady p.next self.new.kept) }
         ensures added { IfOk result (λ p. AddedIsReady p.added self.new.machine.sessions self.new.room) }
+        ensures later { IfOk result (λ p. self.old.machine.moment ≤ p.moment) }
+        ensures woken { IfOk result (λ p. p.woken ≡ woken_by p.moment self.old.machine) }
         ensures same { self.new.machine ≡ self.old.machine }
     {
         let now = moment_after(self.moment, event);
@@ -162,21 +199,25 @@ impl Smf {
             moment: now,
             next,
             added,
+            woken,
         })
     }
 
     // The plan of an event that changes nothing.
-    fn plan_known(&self) -> SmfPlan
+    fn plan_known(&self, alloc: Global) -> SmfPlan
         ensures made { applied result self.now.machine ≡ self.now.machine }
         ensures seen { result.seen ≡ AlreadyKnown }
         ensures next { NextIsReady result.next self.now.kept }
         ensures added { AddedIsReady result.added self.now.machine.sessions self.now.room }
+        ensures later { self.now.machine.moment ≤ result.moment }
+        ensures woken { result.woken ≡ woken_by result.moment self.now.machine }
     {
         SmfPlan {
             seen: Seen::Known,
             moment: self.moment,
             next: Next::Nothing,
             added: None,
+            woken: List::new(alloc),
         }
     }
 
@@ -190,10 +231,11 @@ impl Smf {
         ensures ready { IfOk result (λ p. IsReady p self.new) }
     {
         match self.check(event)? {
-            Seen::Known => Ok(self.plan_known()),
+            Seen::Known => Ok(self.plan_known(alloc)),
             Seen::New => {
-                self.make_room()?;
-                let plan = self.plan_new(alloc, event)?;
+                let woken = self.woken(alloc, event)?;
+                self.make_room(alloc)?;
+                let plan = self.plan_new(alloc, event, woken)?;
                 Ok(plan)
             }
         }
@@ -219,10 +261,18 @@ impl Smf {
             moment,
             next,
             added,
+            woken,
         } = plan;
+        wake(&mut self.agenda, moment, &self.sessions, woken.as_slice());
         self.moment = moment;
-        take_next(&mut self.sessions, next);
-        add(&mut self.index, &mut self.sessions, added);
+        take_next(&mut self.agenda, moment, &mut self.sessions, next);
+        add(
+            &mut self.index,
+            &mut self.agenda,
+            moment,
+            &mut self.sessions,
+            added,
+        );
         seen
     }
 
@@ -238,7 +288,7 @@ impl Smf {
     pub fn next_send(&self) -> Option<(u32, Peer)>
         ensures { result ≡ send_of self.now.machine.moment self.now.machine.sessions }
     {
-        next_to_send(self.moment, &self.sessions)
+        self.agenda.all().send
     }
 
     /// The peer of the attempt of a session's unanswered request that has no end, `None` exactly where there is none.
@@ -285,6 +335,17 @@ impl Smf {
         match self.found(Some(session)) {
             None => 1,
             Some(kept) => kept.expected(group),
+        }
+    }
+
+    /// The containers of a session in order of their numbers, each with what closed it and when, and where it is: one that is given up has
+    /// the cause of that; empty for an unknown session.
+    pub fn holdings(&self, session: u32) -> &[Holding]
+        ensures { result.now ≡ holdings_in (session_of session self.now.machine.sessions) }
+    {
+        match self.found(Some(session)) {
+            None => &[],
+            Some(kept) => kept.holdings(),
         }
     }
 

@@ -1,4 +1,4 @@
-use Rattle.std.proofs.Common.{◌≡◌, ◌<◌, ◌∙◌, ◌+◌, ◌++◌, [], ◌∷◌, get_or, set, sym, ap, subst, map, take, length, refl, arith}
+use Rattle.std.proofs.Common.{◌≡◌, ◌∙◌, ◌+◌, get_or, set, sym, ap, subst, map, take, length, refl, arith}
 use Rattle.std.proofs.lemmas.List.{length-map}
 use Rattle.smf_model.specs.Machine.{next_session, touches}
 use Rattle.smf_core.specs.declared.plan.Turn.{Turn}

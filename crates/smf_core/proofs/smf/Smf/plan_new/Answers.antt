@@ -18,8 +18,8 @@ returns-clause-added c =
     let s = c.self.inside in
     let kept : (with_items s.sessions c.next_turns.new.sessions).items ≡ c.next_turns.new.sessions = with_items_is s.sessions c.next_turns.new.sessions (omega arith) in
     let same : sessions_of c.next_turns.new.sessions ≡ sessions_of s.sessions.items = c.next_turns.ensures.same ∙ ap sessions_of c.deref_mut.ensures.value in
-    let room : 0 < min (s.sessions.cap - s.sessions.len) s.index.room = subst (λ (x : Shown). 0 < x.room) (sym c.self.view_is) c.requires.room in
+    let room : 0 < min (s.sessions.cap - s.sessions.len) (min s.index.room s.agenda.room) = subst (λ (x : Shown). 0 < x.room) (sym c.self.view_is) c.requires.room in
     let new = ap (λ (x : Shown). answer_of x.machine c.args.event.now) c.self.view_is ∙ c.requires.new in
-    subst (λ ss. AddedIsReady c.in_ok-added.added ss (min (s.sessions.cap - s.sessions.len) s.index.room)) (sym (ap sessions_of kept ∙ same))
-    (added_ready c.args.event.now c.in_ok-added.added (record { setup = s.setup; moment = s.moment; sessions = sessions_of s.sessions.items }) (min (s.sessions.cap - s.sessions.len) s.index.room)
+    subst (λ ss. AddedIsReady c.in_ok-added.added ss (min (s.sessions.cap - s.sessions.len) (min s.index.room s.agenda.room))) (sym (ap sessions_of kept ∙ same))
+    (added_ready c.args.event.now c.in_ok-added.added (record { setup = s.setup; moment = s.moment; sessions = sessions_of s.sessions.items }) (min (s.sessions.cap - s.sessions.len) (min s.index.room s.agenda.room))
     (c.in_ok-added.ensures ∙ ap (λ n. added_by s.setup n c.args.event.now) c.moment_after-now.ensures) new room)
