@@ -1,3 +1,5 @@
+pub mod Filed
+pub mod FreshIn
 pub mod FirstAsks
 pub mod Places
 pub mod Fresh

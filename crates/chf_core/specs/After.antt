@@ -16,6 +16,7 @@ use Rattle.chf_core.specs.Operator.{with_name}
 use Rattle.chf_core.specs.Sessions.{sessions_after}
 use Rattle.chf_core.specs.State.{State, with_text, nothing_yet, account_named, account_for, key_of}
 use Rattle.chf_core.specs.CommandMoves.{moves_of}
+use Rattle.chf_core.specs.Filings.{limits_in, filings_of, filed}
 use Rattle.chf_core.specs.Deciding.{decision, first_reply}
 
 -- what is kept of a request: its place, its session's charging id, its content and its first reply (TS 32.290, 5.3.2)
@@ -32,7 +33,7 @@ abbrev pub entered : State → Request → Option Key → List KeptRequest
 entered s q None = s.requests
 entered s q (Some k) = s.requests ++ entry_of s q k ∷ []
 
--- what a command writes, but for the money and the count
+-- what a command writes, but for the money, the records and the count
 abbrev pub written : State → Command → State
 written s (Setup setup) = record s { setup = Some setup }
 written s (Charge q) = record s {
@@ -47,9 +48,13 @@ written s (TopUp id account amount) =
     record s { topups = with_text s.topups id (record { account = account; amount = amount }) }
 written s (Expire moment) = s
 
--- the state after a command: its moves are made, and there is one command more
+-- the state after a command: its moves are made, what it files stands in the records, and there is one command more
 abbrev pub after : State → Command → State
-after s c = record (written s c) { money = made (moves_of s c) s.money; count = s.count + 1 }
+after s c = record (written s c) {
+  money = made (moves_of s c) s.money;
+  book = filed (limits_in s.setup) (filings_of s c) s.book;
+  count = s.count + 1;
+}
 
 -- the state that a list of commands leaves
 abbrev pub state_of : List Command → State

@@ -10,6 +10,8 @@ use Rattle.chf_core.specs.declared.decision.Verdict.TheVariants.{Kept, Known, Re
 use Rattle.chf_core.specs.declared.chf.Chf.TheInside.{Inside}
 use Rattle.chf_core.specs.KeyTable.{kept_place, kept_reference, AreKnown, room}
 use Rattle.chf_core.specs.Owners.{IsOwned}
+use Rattle.chf_core.specs.Filings.{limits_in}
+use Rattle.chf_core.specs.Booked.{AreNumbered}
 use Rattle.chf_core.specs.Placed.{AreAscending, AreBelow}
 use Rattle.chf_core.specs.State.{State, place_of, reference_of}
 use Rattle.chf_core.specs.Machine.{Machine}
@@ -24,6 +26,7 @@ state_seen c = record {
   topups = c.topups.of;
   sessions = c.sessions.items;
   money = c.accounts.state;
+  book = c.book.records;
   requests = c.requests.items;
 }
 
@@ -35,7 +38,7 @@ places c =
 
 -- the value of the machine
 abbrev pub machine : Inside → Machine
-machine c = record { state = state_seen c; consumers = c.keyed.consumers.list; places = places c; moves = c.accounts.spare }
+machine c = record { state = state_seen c; book = c.book; consumers = c.keyed.consumers.list; places = places c; moves = c.accounts.spare }
 
 -- what holds of its fields
 pub record IsIndexed (c : Inside) : Type 0 where
@@ -48,6 +51,8 @@ pub record IsIndexed (c : Inside) : Type 0 where
   pub below : AreBelow c.count c.requests.items
   pub owned : IsOwned (state_seen c)
   pub few : length c.sessions.items ≤ c.count
+  pub limited : c.book.limits ≡ limits_in c.setup
+  pub numbered : AreNumbered (length c.sessions.items) c.book.records.sessions
 
 -- what is answered without a plan: nothing on what is fresh
 abbrev pub answer_by : Verdict → Option Decision

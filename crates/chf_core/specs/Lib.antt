@@ -1,4 +1,6 @@
 pub mod Same
+pub mod Filings
+pub mod Booked
 pub mod Barring
 pub mod Operator
 pub mod Sessions

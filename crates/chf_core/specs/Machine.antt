@@ -1,10 +1,12 @@
 -- The machine as its callers see it, what it decides, and when a plan may be committed (TS 32.290, 5.3.2; this
 -- product's own).
-use Rattle.std.specs.Prelude.{◌≡◌, ◌<◌, ◌≤◌, ◌+◌, ◌-◌, ◌^◌, ◌==◌, ◌⊎◌, ⊤, true, ℕ, nat_eq, List, length, reverse, slice_get, Option, Some, None}
+use Rattle.std.specs.Prelude.{◌≡◌, ◌<◌, ◌≤◌, ◌+◌, ◌-◌, ◌^◌, ◌==◌, ◌⊎◌, ⊤, true, ℕ, nat_eq, List, [], length, reverse, slice_get, Option, Some, None}
 use Rattle.std.specs.HashSet.{contains}
 use Rattle.units.specs.declared.request.Operation.{Operation}
 use Rattle.units.specs.declared.request.Operation.TheVariants.{Create}
 use Rattle.units.specs.declared.request.Request.{Request}
+use Rattle.units.specs.declared.request.UnitUsage.{UnitUsage}
+use Rattle.records.specs.Seen.{BookSeen}
 use Rattle.accounts.specs.Ledger.{State as Money, numbers}
 use Rattle.accounts.specs.Making.{AreMakeable}
 use Rattle.chf_core.specs.declared.command.Command.{Command}
@@ -21,15 +23,17 @@ use Rattle.chf_core.specs.Barring.{bars}
 use Rattle.chf_core.specs.Keys.{key}
 use Rattle.chf_core.specs.Decisions.{is_fresh}
 use Rattle.chf_core.specs.Named.{IsProvided}
+use Rattle.chf_core.specs.Booked.{CanFile, IsFiled, reference_by}
 use Rattle.chf_core.specs.State.{State, account_for, key_of}
 use Rattle.chf_core.specs.CommandMoves.{moves_of}
 use Rattle.chf_core.specs.Deciding.{decision, outcome_of}
 use Rattle.chf_core.specs.After.{is_setup}
 
--- the state; and what callers need not look at: the names of the consumers, and for how many more commands and moves of
+-- the state; and what callers need not look at: the book of records with its room, the names of the consumers, and for how many more commands and moves of
 -- money there is room
 pub record Machine : Type 0 where
   pub state : State
+  pub book : BookSeen
   pub consumers : List (List ℕ)
   pub places : ℕ
   pub moves : ℕ
@@ -62,10 +66,10 @@ pub record CanTopUp (s : Money) (account amount : ℕ) : Type 0 where
 
 -- a change has what a command's commit writes besides what the command says
 abbrev pub Writes : Machine → Command → Change → Type 0
-Writes m (Setup setup) change.Setup = ⊤
-Writes m (Charge q) (change.Charge charging_id session consumer) =
+Writes m (Setup setup) (change.Setup limits) = limits ≡ setup.limits
+Writes m (Charge q) (change.Charge charging_id session consumer names used) =
     (key_of m.state q ≡ Some (key q.consumer charging_id q.number))
-    × ((session ≡ session_by q.operation q (account_for m.state q.subscriber)) × IsProvided m.consumers q.consumer consumer)
+    × ((session ≡ session_by q.operation q (account_for m.state q.subscriber)) × (IsProvided m.consumers q.consumer consumer × IsFiled q session names used))
 Writes m (Subscriber supi account barred) (change.Subscriber name groups) =
     IsProvided m.state.names account name × ((group : ℕ) → contains nat_eq groups group ≡ bars barred group)
 Writes m (TopUp id account amount) change.TopUp = ⊤
@@ -80,6 +84,16 @@ pub record IsWorkedOut (m : Machine) (c : Command) (p : Plan) : Type 0 where
   pub makeable : AreMakeable p.moves m.state.money
   pub change : Writes m c p.change
 
+-- the session in whose records a command files, 0 where it files nothing
+abbrev pub filed_reference : State → Command → ℕ
+filed_reference s (Charge q) = reference_by q.operation (length s.sessions)
+filed_reference s other = 0
+
+-- the containers that a change files
+abbrev pub filed_containers : Change → List UnitUsage
+filed_containers (change.Charge charging_id session consumer names used) = used
+filed_containers other = []
+
 -- a plan is ready where its command is fresh, and a setup the first one and no other, all that comes of it is worked out, and there is room for it
 pub record IsReady (m : Machine) (p : Plan) : Type 0 where
   pub order : is_setup p.command ≡ (m.state.count == 0)
@@ -87,6 +101,7 @@ pub record IsReady (m : Machine) (p : Plan) : Type 0 where
   pub worked_out : IsWorkedOut m p.command p
   pub spare : length p.moves ≤ m.moves
   pub places : 0 < m.places
+  pub files : CanFile m.book (filed_reference m.state p.command) (filed_containers p.change)
 
 -- what is answered on a command
 abbrev pub Answers : Machine → Command → Decision → Type 0

@@ -9,6 +9,7 @@ use Rattle.units.specs.declared.request.Operation.{Operation}
 use Rattle.units.specs.declared.request.Operation.TheVariants.{Create, Update, Release}
 use Rattle.units.specs.declared.request.Request.{Request}
 use Rattle.accounts.specs.Ledger.{State as Money}
+use Rattle.records.specs.Book.{Records, no_records}
 use Rattle.accounts.specs.Moves.{empty_state}
 use Rattle.chf_core.specs.declared.setup.ChfSetup.{ChfSetup}
 use Rattle.chf_core.specs.declared.session.Session.{Session}
@@ -34,7 +35,8 @@ abbrev pub with_text : {X : Type 0} → Texts X → List ℕ → X → Texts X
 with_text values text value = put (slice_cmp nat_cmp) text value values
 
 -- the setup; how many commands there were; the names of the accounts, the newest first; the latest row of each
--- subscriber; the top-ups by id; the sessions by reference; the money; and the kept requests, the oldest first
+-- subscriber; the top-ups by id; the sessions by reference; the money; the
+-- records; and the kept requests, the oldest first
 pub record State : Type 0 where
   pub setup : Option ChfSetup
   pub count : ℕ
@@ -43,6 +45,7 @@ pub record State : Type 0 where
   pub topups : Texts Sum
   pub sessions : List Session
   pub money : Money
+  pub book : Records
   pub requests : List KeptRequest
 
 -- before any command
@@ -55,6 +58,7 @@ nothing_yet = record {
   topups = [];
   sessions = [];
   money = empty_state;
+  book = no_records;
   requests = [];
 }
 

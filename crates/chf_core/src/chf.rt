@@ -19,6 +19,7 @@ use crate::subscription::{Subscription, Sum};
 use crate::text_table::TextTable;
 use accounts::Accounts;
 use rating::Tariffs;
+use records::Book;
 use std::alloc::Global;
 use std::marker::Model;
 use units::{Moment, OutOfMemory};
@@ -35,6 +36,7 @@ pub struct Chf {
     pub(crate) topups: TextTable<Sum>,
     pub(crate) sessions: Vec<Session>,
     pub(crate) accounts: Accounts,
+    pub(crate) book: Book,
     pub(crate) requests: Vec<KeptRequest>,
     pub(crate) keyed: KeyTable,
 }
@@ -80,6 +82,7 @@ impl Chf {
             topups: TextTable::new(alloc),
             sessions: Vec::new(alloc),
             accounts: Accounts::new(alloc),
+            book: Book::empty(alloc),
             requests: Vec::new(alloc),
             keyed: KeyTable::new(alloc),
         }
@@ -158,6 +161,13 @@ impl Chf {
         ensures { result.now.state ≡ self.now.state.money }
     {
         &self.accounts
+    }
+
+    /// The charging records after the commands (TS 32.255, 5.2.3).
+    pub fn book(&self) -> &Book
+        ensures { result.now.records ≡ self.now.state.book }
+    {
+        &self.book
     }
 
     /// The name of the account with a number.

@@ -1,20 +1,32 @@
 //! Decisions, and the plans of fresh commands.
+ghost use Rattle.std.specs.Prelude.{◌≡◌};
+ghost use Rattle.chf_core.specs.Machine.{filed_containers};
+
 use crate::command::{Command, Outcome};
+use crate::filing::Opening;
 use crate::names::NewName;
 use crate::refusal::ChfRefusal;
 use crate::session::Session;
 use accounts::Moves;
+use records::RecordLimits;
 use std::collections::HashSet;
+use units::{List, UnitUsage};
 
 /// What a command's commit writes besides what the command says.
 #[derive(Debug, Drop)]
 pub(crate) enum Change {
-    Setup,
-    /// The charging id in the request's key, the session that it opens, and the name of its consumer where that is new.
+    /// The limits of records.
+    Setup {
+        limits: RecordLimits,
+    },
+    /// The charging id in the request's key, the session that it opens, and the name of its consumer where that is new;
+    /// the names of the records that begin with it, and its containers by rating group.
     Charge {
         charging_id: u32,
         session: Option<Session>,
         consumer: Option<NewName>,
+        names: Option<Opening>,
+        used: List<UnitUsage>,
     },
     /// The name of the account, where that is new, and the set of the barred groups.
     Subscriber {
@@ -23,6 +35,18 @@ pub(crate) enum Change {
     },
     TopUp,
     Expire,
+}
+
+impl Change {
+    /// The containers that the command files.
+    pub(crate) fn containers(&self) -> &[UnitUsage]
+        ensures { result.now ≡ filed_containers self.now }
+    {
+        match self {
+            Change::Charge { used, .. } => used.as_slice(),
+            _ => &[],
+        }
+    }
 }
 
 /// A command that is fresh, what it comes to, and the moves of money that it makes. It is to be committed before

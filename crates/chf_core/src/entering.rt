@@ -15,6 +15,7 @@ use crate::barred::Barred;
 use crate::chf::Chf;
 use crate::command::{Command, Outcome};
 use crate::decision::{Change, Plan};
+use crate::filing::file;
 use crate::kept_request::KeptRequest;
 use crate::key_table::KeyTable;
 use crate::lookups::id_of;
@@ -132,6 +133,10 @@ impl Chf {
         requires { IsReady self.old (record { command = Command.Setup setup; outcome = outcome; moves = moves; change = change }) }
         ensures { self.new.state ≡ after self.old.state (Command.Setup setup) }
     {
+        let Change::Setup { limits } = change else {
+            unreachable!();
+        };
+        self.book.limit(limits);
         self.setup = Some(setup);
         self.count += 1;
     }
@@ -150,11 +155,14 @@ impl Chf {
             charging_id,
             session,
             consumer,
+            names,
+            used,
         } = change
         else {
             unreachable!();
         };
         make_moves(&mut self.accounts, &moves);
+        file(&mut self.book, self.sessions.len(), &request, names, used);
         let reference = reference_for(&self.sessions, &session);
         enter_key(
             &mut self.keyed,

@@ -12,12 +12,14 @@
 //!
 //! How it is built: `chf` has the public calls; `finding` looks up; `answering` is the order of checks; `planning`
 //! makes all the memory that a commit needs, with the moves of money (`draft`, `operator_moves`) and the first
-//! `reply`, each worked out once; `entering` has one commit for each command. `text_table` and `found_requests` keep
-//! what is seen as lists in an order; what is kept beside the state is in `specs/Caches`.
+//! `reply`, each worked out once; `entering` has one commit for each command, and `filing` files a request in the book
+//! of records. `text_table` and `found_requests` keep what is seen as lists in an order; what is kept beside the state is
+//! in `specs/Caches`.
 //!
 //! Where a rule goes: a command is a case of `decision`, `moves_of` and `written`, with one function in `answering`,
 //! `planning` and `entering`; a check goes into `Deciding` and `answering`; a step of a request's effect into
-//! `CommandMoves` and `draft`; what is to be kept into `State`, its list definition and `Joined`.
+//! `CommandMoves` and `draft`, what it files into `Filings` and `filing`; what is to be kept into `State`, its list
+//! definition and `Joined`.
 #![tactic(auto)]
 
 mod answering;
@@ -28,6 +30,7 @@ mod command;
 mod decision;
 mod draft;
 mod entering;
+mod filing;
 mod finding;
 mod found_requests;
 mod give_back;

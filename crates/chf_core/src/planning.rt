@@ -1,30 +1,34 @@
 //! The plan of a fresh command, which makes all the memory that its commit needs.
-ghost use Rattle.std.specs.Prelude.{◌≡◌, ◌<◌, ◌≤◌, ◌-◌, ◌^◌, ◌==◌, IfOk, OnOk, IsSome, Some, true, false};
+ghost use Rattle.std.specs.Prelude.{◌≡◌, ◌<◌, ◌≤◌, ◌-◌, ◌^◌, ◌==◌, IfOk, IfSome, OnOk, IsSome, is_some, Some, true, false};
 ghost use Rattle.accounts.specs.Making.{AreMakeable};
 ghost use Rattle.chf_core.specs.declared.command.Command.TheVariants.{Setup, Charge, Subscriber, TopUp, Expire};
 ghost use Rattle.chf_core.specs.Sessions.{supi_of};
 ghost use Rattle.chf_core.specs.Keys.{key};
+ghost use Rattle.records.specs.Groups.{AreApart};
+ghost use Rattle.chf_core.specs.Booked.{CanFile, Opens};
 ghost use Rattle.chf_core.specs.Named.{IsProvided};
 ghost use Rattle.chf_core.specs.Decisions.{is_fresh};
 ghost use Rattle.chf_core.specs.State.{key_of};
 ghost use Rattle.chf_core.specs.CommandMoves.{target_of, rating_of, moves_of, infos_for};
 ghost use Rattle.chf_core.specs.Deciding.{decision, outcome_of};
 ghost use Rattle.chf_core.specs.After.{is_setup};
-ghost use Rattle.chf_core.specs.Machine.{Machine, IsReady, IsWorkedOut, Writes, new_session, session_by};
+ghost use Rattle.chf_core.specs.Machine.{Machine, IsReady, IsWorkedOut, Writes, filed_reference, new_session, session_by};
 
 use crate::barred::set_of;
 use crate::chf::Chf;
 use crate::command::{Command, Outcome};
 use crate::decision::{Change, Plan};
 use crate::draft::{Effect, effect_of};
+use crate::filing::{Opening, reference_by};
 use crate::lookups::id_of;
 use crate::names::{Names, NewName};
 use crate::operator_moves::{adding, expiring, topping};
 use crate::session::Session;
 use crate::setup::ChfSetup;
 use accounts::Moves;
+use records::by_group;
 use std::alloc::Global;
-use units::{List, Moment, Operation, OutOfMemory, Request, Text, copy};
+use units::{List, Moment, Operation, OutOfMemory, Request, Text, UnitUsage, copy};
 
 // The copies of a name that has no number.
 fn name_for(alloc: Global, names: &Names, name: &Text) -> Result<Option<NewName>, OutOfMemory>
@@ -79,6 +83,25 @@ fn session_opened(
     }
 }
 
+// The names of the records of a session that begins.
+fn names_opened(
+    alloc: Global,
+    request: &Request,
+    session: &Option<Session>,
+) -> Result<Option<Opening>, OutOfMemory>
+    ensures opens { IfOk result (λ o. is_some o ≡ is_some session.now) }
+    ensures names { IfOk result (λ o. IfSome o (Opens request.now)) }
+{
+    match session {
+        Some(_) => Ok(Some(Opening {
+            subscriber: supi_copy(alloc, &request.subscriber)?,
+            consumer: copy(&request.consumer)?,
+            charging_id: id_of(request.charging_id),
+        })),
+        None => Ok(None),
+    }
+}
+
 // The plan of a setup.
 fn plan_setup(alloc: Global, setup: &ChfSetup) -> Result<Plan, OutOfMemory>
     ensures { IfOk result (λ p. (m : Machine) → IsWorkedOut m (Setup setup.now) p) }
@@ -89,7 +112,9 @@ fn plan_setup(alloc: Global, setup: &ChfSetup) -> Result<Plan, OutOfMemory>
         },
         outcome: Outcome::Done,
         moves: Moves::new(alloc),
-        change: Change::Setup,
+        change: Change::Setup {
+            limits: copy(&setup.limits)?,
+        },
     })
 }
 
@@ -136,10 +161,14 @@ impl Chf {
         requires { key_of self.now.state request.now ≡ Some (key request.now.consumer charging_id request.now.number) }
         ensures { IfOk result (Writes self.now (Charge request.now)) }
     {
+        let session = session_opened(alloc, request, self.account_for(&request.subscriber))?;
+        let names = names_opened(alloc, request, &session)?;
         Ok(Change::Charge {
             charging_id,
-            session: session_opened(alloc, request, self.account_for(&request.subscriber))?,
+            session,
             consumer: name_for(alloc, &self.keyed.consumers, &request.consumer)?,
+            names,
+            used: by_group(alloc, request.usage.as_slice())?,
         })
     }
 
@@ -267,14 +296,38 @@ impl Chf {
         }
     }
 
-    // Room for one more command, and for that many moves of money.
-    fn make_room(&mut self, alloc: Global, moves: usize) -> Result<(), OutOfMemory>
-        requires { self.old.state.count < 2 ^ 32 - 1 }
+    // The session in whose records a command files.
+    fn filed_reference(&self, command: &Command) -> u32
+        requires { self.now.state.count < 2 ^ 32 - 1 }
+        ensures { result ≡ filed_reference self.now.state command.now }
+    {
+        match command {
+            Command::Charge { request } => reference_by(request, self.sessions.len()),
+            _ => 0,
+        }
+    }
+
+    // Room for one more command, for that many moves of money, and for what is filed in a session's records. There are
+    // fewer than 2^32 - 3 closed records.
+    fn make_room(
+        &mut self,
+        alloc: Global,
+        moves: usize,
+        reference: u32,
+        used: &[UnitUsage],
+    ) -> Result<(), OutOfMemory>
+        requires few { self.old.state.count < 2 ^ 32 - 1 }
+        requires apart { AreApart used.now }
         ensures same { self.new.state ≡ self.old.state }
         ensures consumers { self.new.consumers ≡ self.old.consumers }
         ensures places { OnOk result (0 < self.new.places) }
         ensures moves { OnOk result (moves ≤ self.new.moves) }
+        ensures files { OnOk result (CanFile self.new.book reference used.now) }
     {
+        if self.book.closed().len() >= 4_294_967_293 {
+            return Err(OutOfMemory);
+        }
+        let book = self.book.make_room(reference, used).is_ok();
         let requests = self.requests.reserve(1).is_ok();
         let sessions = self.sessions.reserve(1).is_ok();
         let names = self.names.make_room().is_ok();
@@ -282,7 +335,7 @@ impl Chf {
         let topups = self.topups.make_room().is_ok();
         let keyed = self.keyed.make_room().is_ok();
         let accounts = self.accounts.make_room(alloc, moves).is_ok();
-        if requests && sessions && names && subscribers && topups && keyed && accounts {
+        if requests && sessions && names && subscribers && topups && keyed && accounts && book {
             Ok(())
         } else {
             Err(OutOfMemory)
@@ -298,7 +351,8 @@ impl Chf {
         ensures ready { IfOk result (λ p. (p.command ≡ command.now) × IsReady self.new p) }
     {
         let plan = self.work_out(alloc, command)?;
-        self.make_room(alloc, plan.moves.len())?;
+        let reference = self.filed_reference(command);
+        self.make_room(alloc, plan.moves.len(), reference, plan.change.containers())?;
         Ok(plan)
     }
 }

@@ -1,0 +1,83 @@
+-- What a command that is fresh in a state comes to.
+use Rattle.std.proofs.Common.{◌≡◌, ℕ, nat_le, Bool, true, false, cond, List, Option, Some, None, refl}
+use mathlib.Core.Bool.{false≢true}
+use Rattle.units.specs.declared.request.Operation.{Operation}
+use Rattle.units.specs.declared.request.Operation.TheVariants.{Create, Update, Release}
+use Rattle.units.specs.declared.request.Request.{Request}
+use Rattle.accounts.specs.Endings.{count_ending, Until}
+use Rattle.chf_core.specs.declared.command.Command.{Command}
+use Rattle.chf_core.specs.declared.command.Command.TheVariants.{Setup, Charge, Subscriber, TopUp, Expire}
+use Rattle.chf_core.specs.declared.command.Outcome.TheVariants.{Done}
+use Rattle.chf_core.specs.declared.decision.Verdict.{Verdict}
+use Rattle.chf_core.specs.declared.decision.Verdict.TheVariants.{Fresh, Refused, Known}
+use Rattle.chf_core.specs.declared.refusal.ChfRefusal.TheVariants.{SessionClosed, SequencePassed, TopUpDiffers}
+use Rattle.chf_core.specs.declared.session.Session.{Session}
+use Rattle.chf_core.specs.declared.key.Key.{Key}
+use Rattle.chf_core.specs.declared.subscription.Sum.{Sum}
+use Rattle.chf_core.specs.Decisions.{is_fresh, last_of, at_kept, same_row, decide_subscriber, decide_again, decide_topup, decide_expire}
+use Rattle.chf_core.specs.State.{State, at_text, account_named, named_by, key_of, place_of, kept_at}
+use Rattle.chf_core.specs.Deciding.{outcome_of, is_repeat, fresh_charge, at_new_create, at_new_later, at_new, at_place, at_key, decision}
+
+-- a verdict that is fresh comes to this outcome
+abbrev Tells : Verdict → Verdict → Type 0
+Tells fresh v = is_fresh v ≡ true → v ≡ fresh
+
+of_create : (s : State) (q : Request) (o : Option Session) → Tells (fresh_charge s q) (at_new_create s q o)
+of_create s q None e = refl
+of_create s q (Some z) e = absurd (false≢true e)
+
+later_by : (s : State) (q : Request) (z : Session) (b d : Bool) → Tells (fresh_charge s q) (cond b (Refused (SequencePassed z.last)) (cond d (fresh_charge s q) (Refused (SessionClosed z.last))))
+later_by s q z true d e = absurd (false≢true e)
+later_by s q z false true e = refl
+later_by s q z false false e = absurd (false≢true e)
+
+of_later : (s : State) (q : Request) (o : Option Session) → Tells (fresh_charge s q) (at_new_later s q o)
+of_later s q None e = absurd (false≢true e)
+of_later s q (Some z) e = later_by s q z (nat_le q.number z.last) z.is_open e
+
+of_new : (op : Operation) (s : State) (q : Request) (o : Option Session) → Tells (fresh_charge s q) (at_new op s q o)
+of_new Create s q o e = of_create s q o e
+of_new (Update r) s q o e = of_later s q o e
+of_new (Release r) s q o e = of_later s q o e
+
+of_kept : (fresh : Verdict) (place last : ℕ) (b : Bool) → Tells fresh (at_kept place last b)
+of_kept fresh place last true e = absurd (false≢true e)
+of_kept fresh place last false e = absurd (false≢true e)
+
+of_place : (s : State) (q : Request) (z : Option Session) (o : Option ℕ) → Tells (fresh_charge s q) (at_place s q z o)
+of_place s q z None e = of_new q.operation s q z e
+of_place s q z (Some place) e = of_kept (fresh_charge s q) place (last_of z) (is_repeat q (kept_at s place)) e
+
+of_key : (s : State) (q : Request) (o : Option Key) → Tells (fresh_charge s q) (at_key s q o)
+of_key s q None e = absurd (false≢true e)
+of_key s q (Some k) e = of_place s q (named_by q.operation s q) (place_of s k) e
+
+of_subscriber : (b : Bool) → Tells (Fresh Done) (decide_subscriber b)
+of_subscriber true e = absurd (false≢true e)
+of_subscriber false e = refl
+
+again_by : (b : Bool) → Tells (Fresh Done) (cond b Known (Refused TopUpDiffers))
+again_by true e = absurd (false≢true e)
+again_by false e = absurd (false≢true e)
+
+of_again : (account : List ℕ) (amount : ℕ) (o : Option Sum) → Tells (Fresh Done) (decide_again account amount o)
+of_again account amount None e = refl
+of_again account amount (Some t) e = again_by _ e
+
+of_topup : (account : List ℕ) (amount : ℕ) (n : Option ℕ) (o : Option Sum) → Tells (Fresh Done) (decide_topup account amount n o)
+of_topup account amount None o e = absurd (false≢true e)
+of_topup account amount (Some n) o e = of_again account amount o e
+
+of_expire : (n : ℕ) → Tells (Fresh Done) (decide_expire n)
+of_expire n e = by _ e where
+  by : (b : Bool) → Tells (Fresh Done) (cond b Known (Fresh Done))
+  by true w = absurd (false≢true w)
+  by false w = refl
+
+-- so each command
+pub fresh_in : (s : State) (c : Command) → Tells (Fresh (outcome_of s c)) (decision s c)
+fresh_in s (Setup setup) e = refl
+fresh_in s (Charge q) e = of_key s q (key_of s q) e
+fresh_in s (Subscriber supi account barred) e = of_subscriber (same_row account barred (at_text s.subscribers supi)) e
+fresh_in s (TopUp id account amount) e = of_topup account amount (account_named s account) (at_text s.topups id) e
+fresh_in s (Expire moment) e = of_expire (count_ending s.money.reservations (Until moment)) e
