@@ -55,41 +55,100 @@ const TABLES: [&str; 23] = [
     "http-cuts",
 ];
 
+// What is answered on a case about times, messages and records.
+fn answer_of_texts(
+    alloc: Global,
+    table: &str,
+    fields: &[&str],
+) -> Result<Option<String>, OutOfMemory> {
+    let answer = match (table, fields) {
+        ("time", [text]) => times::time(alloc, text)?,
+        ("stamp", [octets]) => times::stamp(alloc, octets)?,
+        ("request", [operation, body]) => messages::request(alloc, operation, body)?,
+        ("reply", [status, location, body]) => messages::reply(alloc, status, location, body)?,
+        ("element", [octets]) => elements::element(alloc, octets)?,
+        ("length", [count]) => elements::length(alloc, count)?,
+        ("once", [octets]) => elements::once(alloc, octets)?,
+        ("record", [octets]) => charging_records::record(alloc, octets)?,
+        _ => return Ok(None),
+    };
+    Ok(Some(answer))
+}
+
+// What is answered on a case about the machines.
+fn answer_of_machines(
+    alloc: Global,
+    table: &str,
+    fields: &[&str],
+) -> Result<Option<String>, OutOfMemory> {
+    let answer = match (table, fields) {
+        ("meter", [horizon, reports]) => reports::meter(alloc, horizon, reports)?,
+        ("quota", [steps]) => quota_steps::quota(alloc, steps)?,
+        ("events", [events]) => events::events(alloc, false, events)?,
+        ("many-events", [events]) => events::events(alloc, true, events)?,
+        ("sending", [setup, events]) => sending::sending(alloc, setup, events)?,
+        _ => return Ok(None),
+    };
+    Ok(Some(answer))
+}
+
+// What is answered on a case about devices.
+fn answer_of_devices(
+    rt: &HostRuntime,
+    table: &str,
+    fields: &[&str],
+) -> Result<Option<String>, OutOfMemory> {
+    let alloc = rt.alloc();
+    let answer = match (table, fields) {
+        ("devices", [words, input, reads, writes, room]) => {
+            devices::devices(alloc, words, input, reads, writes, room)?
+        }
+        ("door", [bytes, room, fails, steps]) => {
+            connections::door(alloc, bytes, room, fails, steps)?
+        }
+        ("link", [bytes, room, fails, steps]) => {
+            connections::link(alloc, bytes, room, fails, steps)?
+        }
+        ("clock", [first, step, count]) => connections::clock(alloc, first, step, count)?,
+        ("loopback", [case]) => connections::loopback(rt, alloc, case)?,
+        ("journal", [limit, payload]) => disks::journal(alloc, limit, payload)?,
+        ("file-disk", [name]) => disks::file_disk(rt, alloc, name)?,
+        _ => return Ok(None),
+    };
+    Ok(Some(answer))
+}
+
+// What is answered on a case about streams of HTTP messages.
+fn answer_of_streams(
+    alloc: Global,
+    table: &str,
+    fields: &[&str],
+) -> Result<Option<String>, OutOfMemory> {
+    let answer = match (table, fields) {
+        ("http-request", [octets]) => http::requests(alloc, octets)?,
+        ("http-response", [octets]) => http::responses(alloc, octets)?,
+        ("http-cuts", [kind, octets]) => cuts::cuts(alloc, kind, octets)?,
+        _ => return Ok(None),
+    };
+    Ok(Some(answer))
+}
+
 // What is answered on a case.
 fn answer(rt: &HostRuntime, table: &str, fields: &[&str]) -> Result<String, OutOfMemory> {
     let alloc = rt.alloc();
-    match (table, fields) {
-        ("time", [text]) => times::time(alloc, text),
-        ("stamp", [octets]) => times::stamp(alloc, octets),
-        ("request", [operation, body]) => messages::request(alloc, operation, body),
-        ("reply", [status, location, body]) => messages::reply(alloc, status, location, body),
-        ("element", [octets]) => elements::element(alloc, octets),
-        ("length", [count]) => elements::length(alloc, count),
-        ("once", [octets]) => elements::once(alloc, octets),
-        ("record", [octets]) => charging_records::record(alloc, octets),
-        ("meter", [horizon, reports]) => reports::meter(alloc, horizon, reports),
-        ("quota", [steps]) => quota_steps::quota(alloc, steps),
-        ("events", [events]) => events::events(alloc, false, events),
-        ("many-events", [events]) => events::events(alloc, true, events),
-        ("sending", [setup, events]) => sending::sending(alloc, setup, events),
-        ("devices", [words, input, reads, writes, room]) => {
-            devices::devices(alloc, words, input, reads, writes, room)
-        }
-        ("door", [bytes, room, fails, steps]) => {
-            connections::door(alloc, bytes, room, fails, steps)
-        }
-        ("link", [bytes, room, fails, steps]) => {
-            connections::link(alloc, bytes, room, fails, steps)
-        }
-        ("clock", [first, step, count]) => connections::clock(alloc, first, step, count),
-        ("loopback", [case]) => connections::loopback(rt, alloc, case),
-        ("journal", [limit, payload]) => disks::journal(alloc, limit, payload),
-        ("file-disk", [name]) => disks::file_disk(rt, alloc, name),
-        ("http-request", [octets]) => http::requests(alloc, octets),
-        ("http-response", [octets]) => http::responses(alloc, octets),
-        ("http-cuts", [kind, octets]) => cuts::cuts(alloc, kind, octets),
-        _ => Ok(String::from_str(alloc, "no such table")?),
+    if let Some(answer) = answer_of_texts(alloc, table, fields)? {
+        return Ok(answer);
     }
+    if let Some(answer) = answer_of_machines(alloc, table, fields)? {
+        return Ok(answer);
+    }
+    if let Some(answer) = answer_of_devices(rt, table, fields)? {
+        return Ok(answer);
+    }
+    if let Some(answer) = answer_of_streams(alloc, table, fields)? {
+        return Ok(answer);
+    }
+    Ok(String::from_str(alloc, "no such table")?)
 }
 
 // Looks at a line: what is answered, where that is not what is wanted.

@@ -109,14 +109,14 @@ fn length_of<F: Seek>(file: &mut F) -> Option<u64> {
     file.seek(SeekFrom::End(0)).ok()
 }
 
-// The epoch in the file of this path, 0 where there is none.
+// The epoch in the file of this path, 0 where there is none. It is read at once: what is cut short is no epoch.
 fn stored_epoch<R: Files>(files: &R, path: &str) -> Option<u64> {
     let mut how = OpenOptions::new();
     how.read(true);
     match how.open(files, path) {
         Ok(mut file) => {
             let mut text = [0; 24];
-            let count = read_at(&mut file, 0, &mut text)?;
+            let count = file.read(&mut text).ok()?;
             epoch_in(&text[..count])
         }
         Err(error) => {

@@ -15,10 +15,6 @@ pub data Decided : Type 0 where
   Over : ℕ → Decided
   IsNew : Decided
 
--- a kept request without the mark of a repeat, which is no part of what both ends agree on
-abbrev pub unmarked : Kept → Kept
-unmarked k = record k { request = content k.request }
-
 -- the kept request under a number
 abbrev pub kept_under : List Kept → ℕ → Option Kept
 kept_under [] number = None
