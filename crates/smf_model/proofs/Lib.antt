@@ -39,3 +39,4 @@ pub mod Excess
 pub mod ExcessRuns
 pub mod Apart
 pub mod Ended
+pub mod Resting

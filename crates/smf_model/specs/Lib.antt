@@ -29,3 +29,4 @@ pub mod Sent
 pub mod Flights
 pub mod Left
 pub mod Among
+pub mod Resting

@@ -24,13 +24,16 @@ ghost use Rattle.smf_model.specs.Apart.{RequestsAreApart, SessionsAreApart};
 ghost use Rattle.smf_model.specs.Ended.{HoldsNothing};
 ghost use Rattle.smf_model.specs.Prefixes.{AreStanding};
 ghost use Rattle.smf_model.specs.Limits.{WaitsAtMost};
+ghost use Rattle.smf_model.specs.declared.session.Session.{Session};
+ghost use Rattle.smf_model.specs.Machine.{finished};
+ghost use Rattle.smf_model.specs.Resting.{IsAtRest, RestsUntilEnd};
 ghost use Rattle.smf_model.specs.Left.{NothingIsLeft, StaysClosed, AreOfSubscriber};
 ghost use Rattle.smf_model.specs.Reports.{reports, StandsByReports};
 ghost use Rattle.smf_model.specs.Came.{steps};
 ghost use Rattle.smf_model.specs.Quotas.{StandsBySteps, NoneIsDue};
 
 use meter::reports_keep_cuts;
-use quotas::{by_whole_list, fires_once};
+use quotas::{by_whole_list, fires_once, rests_until_deadline};
 
 /// A law of events; it does nothing. After any events each session is as its moves leave it: its requests are numbered 1, 2, 3, each
 /// after the first was frozen after a success of the one before, and the unanswered one is the newest (TS 32.290, 5.3.2).
@@ -114,6 +117,16 @@ pub fn few_wait()
 pub fn nothing_is_left()
     ensures { (setup : SmfSetup) (events : List SmfEvent) (number : ℕ) → NothingIsLeft setup (session_of number (machine_after setup events).sessions) }
 {}
+
+/// A law of events; it does nothing. An event leaves each session that it touches at rest: no request is due to be frozen and no more wait
+/// than may. A tick leaves a session at rest as it is until the moment of one of its rating groups comes: a deadline, or an unsafe hour of its
+/// open container (TS 32.255, 5.2.1).
+pub fn sessions_rest()
+    ensures after { (setup : SmfSetup) (now : ℕ) (s : Session) → IsAtRest setup (finished setup now s) }
+    ensures until { (setup : SmfSetup) (s : Session) → IsAtRest setup s → RestsUntilEnd setup s }
+{
+    rests_until_deadline();
+}
 
 /// A law of events; it does nothing. As events go on a session that is ending or has ended does not come to life again, and the gate of each of its
 /// rating groups is closed (TS 32.290, quota management).

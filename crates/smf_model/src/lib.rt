@@ -24,7 +24,7 @@ pub use laws::{
     nothing_is_left, oldest_are_given_up, places_by_moves, places_go_on, quotas_by_steps,
     replies_are_caused, reports_are_in_order, requests_are_apart, requests_are_named,
     requests_are_of_subscriber, requests_hold, requests_in_order, requests_stand, sending_by_moves,
-    settles_once,
+    sessions_rest, settles_once,
 };
 pub use refusal::{Seen, SmfRefusal};
 pub use session::{Entry, Holding, Life, Loss, Machine, Peer, Place, Rule, Sending, Session, Why};

@@ -13,10 +13,10 @@ take_next-requires-clause-marks c =
     let s = c.self.inside in
     let ss = sessions_of s.sessions.items in
     let now = c.args.plan.moment in
-    woken_marks s.moment now ss s.agenda.marks c.wake.new.agenda.marks c.as_slice.result.now (subst (λ (x : Shown). x.machine.moment ≤ now) (sym c.self.view_is) c.requires.later) c.self.invariant.marks
+    woken_marks s.setup s.moment now ss s.agenda.marks c.wake.new.agenda.marks c.as_slice.result.now (subst (λ (x : Shown). x.machine.moment ≤ now) (sym c.self.view_is) c.requires.later) c.self.invariant.marks
     (c.as_slice.ensures ∙ c.requires.woken ∙ ap (λ (x : Shown). woken_by now x.machine) (sym c.self.view_is))
-    (c.wake.ensures.marks ∙ ap (λ ks. remarked (marks_of now (sessions_of ks)) c.as_slice.result.now s.agenda.marks) c.deref.ensures.value)
-    ∙ ap (λ ks. marks_of now (sessions_of ks)) (sym c.deref_mut.ensures.value)
+    (c.wake.ensures.marks ∙ ap (λ ks. remarked (marks_of s.setup now (sessions_of ks)) c.as_slice.result.now s.agenda.marks) c.deref.ensures.value)
+    ∙ ap (λ ks. marks_of s.setup now (sessions_of ks)) (sym c.deref_mut.ensures.value)
 
 pub add-requires-clause-tied : goal.add-requires-clause-tied
 add-requires-clause-tied c =
@@ -24,7 +24,7 @@ add-requires-clause-tied c =
     let next : sessions_of c.take_next.new.sessions ≡ sessions_next c.args.plan.next (sessions_of c.self.inside.sessions.items) = c.take_next.ensures.value ∙ ap (λ xs. sessions_next c.args.plan.next (sessions_of xs)) c.deref_mut.ensures.value in
     record {
       numbers = c.self.invariant.numbers ∙ sym (numbers_next c.args.plan.next (sessions_of c.self.inside.sessions.items)) ∙ sym (ap numbers_of (ap sessions_of kept ∙ next));
-      marks = c.take_next.ensures.marks ∙ ap (λ ks. marks_of c.args.plan.moment (sessions_of ks)) (sym kept);
+      marks = c.take_next.ensures.marks ∙ ap (λ ks. marks_of c.self.inside.setup c.args.plan.moment (sessions_of ks)) (sym kept);
     }
 
 pub add-requires-clause-ready : goal.add-requires-clause-ready
