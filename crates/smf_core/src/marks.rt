@@ -59,13 +59,7 @@ fn remark(agenda: &mut Agenda, setup: &SmfSetup, now: Moment, sessions: &[Kept],
 }
 
 /// The marks at places are made anew.
-pub fn wake(
-    agenda: &mut Agenda,
-    setup: &SmfSetup,
-    now: Moment,
-    sessions: &[Kept],
-    places: &[usize],
-)
+pub fn wake(agenda: &mut Agenda, setup: &SmfSetup, now: Moment, sessions: &[Kept], places: &[usize])
     requires { length agenda.old.marks ≡ length sessions.now }
     ensures marks { agenda.new.marks ≡ remarked (marks_of setup.now now (sessions_of sessions.now)) places.now agenda.old.marks }
     ensures room { agenda.new.room ≡ agenda.old.room }

@@ -76,6 +76,7 @@ fn add(
 pub struct Smf {
     setup: SmfSetup,
     moment: Moment,
+    count: u32,
     index: Index,
     sessions: Vec<Kept>,
     agenda: Agenda,
@@ -88,7 +89,7 @@ impl Model for Smf {
 
     ghost Value = { Shown };
 
-    ghost view = { λ s. record { machine = record { setup = s.setup; moment = s.moment; sessions = sessions_of s.sessions.items }; kept = s.sessions.items; room = min (vec_capacity s.sessions - vec_len s.sessions) (min s.index.room s.agenda.room) } };
+    ghost view = { λ s. record { machine = record { setup = s.setup; moment = s.moment; count = s.count; sessions = sessions_of s.sessions.items }; kept = s.sessions.items; room = min (vec_capacity s.sessions - vec_len s.sessions) (min s.index.room s.agenda.room) } };
 
     ghost invariant = { λ s. IsTied s.setup s.index.numbers s.agenda.marks s.moment (sessions_of s.sessions.items) };
 }
@@ -102,6 +103,7 @@ impl Smf {
         Ok(Smf {
             setup,
             moment: Moment::first(),
+            count: 1,
             index: Index::new(alloc),
             sessions: Vec::new(alloc),
             agenda: Agenda::new(alloc),
@@ -216,7 +218,11 @@ impl Smf {
         ensures same { self.new.machine ≡ self.old.machine }
     {
         sessions_rest();
+        let Some(count) = self.count.checked_add(1) else {
+            return Err(OutOfMemory);
+        };
         let now = moment_after(self.moment, event);
+        let _seconds = now.seconds();
         let added = added_kept(alloc, &self.setup, now, event)?;
         let place = self.index.place(subject(event));
         let next = next_turns(
@@ -231,6 +237,7 @@ impl Smf {
         Ok(SmfPlan {
             seen: Seen::New,
             moment: now,
+            count,
             next,
             added,
             woken,
@@ -249,13 +256,15 @@ impl Smf {
         SmfPlan {
             seen: Seen::Known,
             moment: self.moment,
+            count: self.count,
             next: Next::Nothing,
             added: None,
             woken: List::new(alloc),
         }
     }
 
-    /// What an event makes of the machine, with all the memory that it takes; nothing that is seen changes. Each event is refused, or
+    /// What an event makes of the machine, with all the memory that it takes; nothing that is seen changes. There is no place for more than
+    /// 2^32 - 1 entries of the list: want of memory. Each event is refused, or
     /// Known, by its checks in order: no session, session exists, too many groups, gate closed, out of step, too large, moment back,
     /// too many reports.
     pub fn plan(&mut self, alloc: Global, event: &SmfEvent) -> Result<SmfPlan, SmfRefusal>
@@ -294,6 +303,7 @@ impl Smf {
         let SmfPlan {
             seen,
             moment,
+            count,
             next,
             added,
             woken,
@@ -307,6 +317,7 @@ impl Smf {
             woken.as_slice(),
         );
         self.moment = moment;
+        self.count = count;
         take_next(
             &mut self.agenda,
             &self.setup,
@@ -350,11 +361,11 @@ impl Smf {
         }
     }
 
-    /// How many sessions there are.
-    pub fn count(&self) -> usize
-        ensures { result ≡ length self.now.machine.sessions }
+    /// How many entries the list has: its setup, and each event that was new.
+    pub fn count(&self) -> u32
+        ensures { result ≡ self.now.machine.count }
     {
-        self.index.numbers().len()
+        self.count
     }
 
     /// The unanswered request of a session, with the mark of its next attempt; `None` exactly where there is none.

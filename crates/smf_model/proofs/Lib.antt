@@ -40,3 +40,6 @@ pub mod ExcessRuns
 pub mod Apart
 pub mod Ended
 pub mod Resting
+pub mod Counts
+pub mod Once
+pub mod LatestRules

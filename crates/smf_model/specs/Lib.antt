@@ -30,3 +30,6 @@ pub mod Flights
 pub mod Left
 pub mod Among
 pub mod Resting
+pub mod Counts
+pub mod Once
+pub mod LatestRules

@@ -1,5 +1,5 @@
 -- The machine: its answer to each event, in the order of its checks, and the step that a new event is (TS 32.255, 5.2.1; TS 32.290, 5.3.2).
-use Rattle.std.specs.Prelude.{ℕ, ◌==◌, ◌&&◌, ◌||◌, not, nat_lt, nat_le, Bool, true, false, if◌then◌else◌, max, Option, Some, None, List, [], ◌∷◌, ◌++◌, map, fold, length, Result, Ok, Err}
+use Rattle.std.specs.Prelude.{ℕ, ◌+◌, ◌==◌, ◌&&◌, ◌||◌, not, nat_lt, nat_le, Bool, true, false, if◌then◌else◌, max, Option, Some, None, List, [], ◌∷◌, ◌++◌, map, fold, length, Result, Ok, Err}
 use Rattle.std.specs.List.{find, list_any}
 use Rattle.units.specs.declared.report.Report.{Report}
 use Rattle.units.specs.declared.reply.Reply.{Reply}
@@ -235,6 +235,7 @@ abbrev pub stepped : Machine → SmfEvent → Machine
 stepped m event = record {
   setup = m.setup;
   moment = now_after m.moment event;
+  count = m.count + 1;
   sessions = map (next_session m.setup (now_after m.moment event) event) m.sessions ++ added_by m.setup (now_after m.moment event) event;
 }
 
@@ -248,9 +249,9 @@ after_answer m event (Err e) = m
 abbrev pub step : Machine → SmfEvent → Machine
 step m event = after_answer m event (answer_of m event)
 
--- a machine without sessions
+-- a machine without sessions, whose setup is the first entry of its list
 abbrev pub empty : SmfSetup → Machine
-empty setup = record { setup = setup; moment = 0; sessions = [] }
+empty setup = record { setup = setup; moment = 0; count = 1; sessions = [] }
 
 -- the machine after these events, the newest first
 abbrev pub machine_after : SmfSetup → List SmfEvent → Machine
