@@ -1,11 +1,12 @@
-use Rattle.std.proofs.Common.{◌<◌, ◌∙◌, length, get_or, ap, add-one, arith}
+use Rattle.std.proofs.Common.{◌<◌, ◌∙◌, length, get_or, ap, sym, add-one, arith}
 use Rattle.std.proofs.lemmas.List.{length-map}
 use Rattle.records.specs.declared.session.SessionKept.{SessionKept}
-use Rattle.records.specs.Book.{Session}
-use Rattle.records.specs.Seen.{numbers_of}
-use Rattle.records.proofs.Swept.{one_swept}
+use Rattle.records.specs.Book.{Session, Records, closable}
+use Rattle.records.specs.Seen.{session_seen, sessions_seen, numbers_of}
+use Rattle.records.proofs.Swept.{one_swept, nothing_left}
+use Rattle.records.proofs.Closable.{all_closed}
 use Rattle.records.proofs.Sessions as s
-use Rattle.records.proofs.book.sweep_all.Goals as goal
+use Rattle.records.proofs.by_number.sweep_all.Goals as goal
 
 pub sweep-requires-clause-sequence : goal.sweep-requires-clause-sequence
 sweep-requires-clause-sequence c =
@@ -27,3 +28,9 @@ loop-session-preserved c =
       len = omega arith;
       kept = omega arith;
     }
+
+pub returns-clause-none : goal.returns-clause-none
+returns-clause-none c =
+    let e = length-map c.loop-session.sessions session_seen in
+    ap (λ (r : Records). closable r.sessions) (sym (nothing_left (sessions_seen c.loop-session.sessions) c.loop-session.session-index c.args.stamp c.loop-session.closed.items (omega arith)) ∙ c.loop-session.invariant.swept)
+    ∙ (all_closed (sessions_seen c.args.sessions.now) c.args.stamp c.args.closed.now.items).0

@@ -3,7 +3,7 @@ use Rattle.std.specs.List.{insert}
 use Rattle.records.specs.Seen.{numbers_of, AreRising, IsThere}
 use Rattle.records.proofs.Entered as e
 use Rattle.records.proofs.Sessions as s
-use Rattle.records.proofs.book.enter.Goals as goal
+use Rattle.records.proofs.by_number.enter.Goals as goal
 
 pub unreachable-requires : goal.unreachable-requires
 unreachable-requires c =

@@ -2,7 +2,7 @@ use Rattle.std.proofs.Common.{◌≡◌, ◌≤◌, ◌+◌, take, drop, vec_len
 use Rattle.records.specs.Book.{all_swept}
 use Rattle.records.specs.Seen.{sessions_seen, numbers_of, SequencesAreWithin}
 use Rattle.records.proofs.Swept.{behind}
-use Rattle.records.proofs.book.sweep_all.Given as goal
+use Rattle.records.proofs.by_number.sweep_all.Given as goal
 
 abbrev pub invariant-loop-session : goal.invariant-loop-session
 invariant-loop-session l = record {

@@ -2,7 +2,7 @@ use Rattle.std.proofs.Common.{◌≡◌, ◌∙◌, ◌++◌, ℕ, List, length,
 use Rattle.std.proofs.Math.Seq.{take-append_seam}
 use Rattle.records.specs.declared.session.SessionKept.{SessionKept}
 use Rattle.records.specs.Seen.{SequencesAreWithin}
-use Rattle.records.proofs.book.make_room_of.Goals as goal
+use Rattle.records.proofs.by_number.make_room_of.Goals as goal
 
 -- what is written back is the whole list
 whole : (new rest : List SessionKept) (n : ℕ) → length new ≡ n → take n (new ++ rest) ≡ new

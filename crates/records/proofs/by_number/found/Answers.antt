@@ -1,7 +1,7 @@
 use Rattle.std.proofs.Common.{sym}
 use Rattle.records.proofs.Found as f
 use Rattle.records.proofs.Sessions as s
-use Rattle.records.proofs.book.found.Goals as goal
+use Rattle.records.proofs.by_number.found.Goals as goal
 
 pub returns-in-None : goal.returns-in-None
 returns-in-None c = sym (s.kept_missing _ _ (f.missing _ _ _ c.requires.same c.in-None.ensures))

@@ -6,7 +6,7 @@ use Rattle.records.specs.Book.{Session}
 use Rattle.records.proofs.Found as f
 use Rattle.records.proofs.Sessions as s
 use Rattle.records.proofs.Places.{on_ok}
-use Rattle.records.proofs.book.make_room_in.Goals as goal
+use Rattle.records.proofs.by_number.make_room_in.Goals as goal
 
 pub returns-in-Some-clause-room : goal.returns-in-Some-clause-room
 returns-in-Some-clause-room c =
