@@ -62,7 +62,8 @@ fn holds(horizon: &Horizon, seconds: u64) -> bool
         }
 }
 
-// The least unsafe hour after the moment.
+/// The least unsafe hour after the moment, where there is one; it may be past the range of moments (TS 32.291,
+/// tariffTimeChange).
 pub fn first_unsafe_hour(horizon: &Option<Horizon>, after: Moment) -> Option<u64>
     ensures { result ≡ least_unsafe horizon.now after }
 {

@@ -3,3 +3,4 @@ pub mod Stands
 pub mod Asks
 pub mod ByList
 pub mod Quiet
+pub mod Deadlines

@@ -3,6 +3,7 @@ pub mod Gate
 pub mod Effect
 pub mod Quota
 pub mod Due
+pub mod Deadline
 pub mod Steps
 pub mod History
 pub mod Laws

@@ -1,7 +1,8 @@
-//! Which trigger is due: by the terms of a grant, and by the open container.
-ghost use Rattle.std.specs.Prelude.{◌≡◌};
+//! Which trigger is due: by the terms of a grant, and by the open container; and when the terms' times are over.
+ghost use Rattle.std.specs.Prelude.{◌≡◌, max};
 ghost use Rattle.std.specs.Option.{option_copied};
 ghost use Rattle.quotas.specs.Due.{first_by_terms, first_by_container};
+ghost use Rattle.quotas.specs.Deadline.{earlier, end_of, terms_deadline};
 
 use crate::standing::Terms;
 use crate::state::Limits;
@@ -51,4 +52,43 @@ pub fn due_by_container(
         return Some(TriggerType::TimeLimit);
     }
     None
+}
+
+fn earlier_of(a: Option<Moment>, b: Option<Moment>) -> Option<Moment>
+    ensures { result ≡ earlier a b }
+{
+    match (a, b) {
+        (None, b) => b,
+        (a, None) => a,
+        (Some(x), Some(y)) => Some(x.min(y)),
+    }
+}
+
+// The end of a time that begins at a moment.
+fn end(from: Moment, time: u32) -> Option<Moment>
+    ensures { result ≡ end_of from time }
+{
+    if time == 0 {
+        return None;
+    }
+    Moment::new(from.seconds() + u64::from(time))
+}
+
+// The moment from which the validity or the holding time is over.
+fn end_of_times(terms: &Terms, last_use: Moment) -> Option<Moment>
+    ensures { result ≡ earlier (end_of terms.now.stamp terms.now.validity) (end_of (max terms.now.stamp last_use) terms.now.holding) }
+{
+    let since = terms.stamp.max(last_use);
+    earlier_of(end(terms.stamp, terms.validity), end(since, terms.holding))
+}
+
+// That moment, where the amount alone makes no trigger due.
+pub fn deadline_by_terms(terms: Terms, left: u64, last_use: Moment) -> Option<Moment>
+    ensures { result ≡ terms_deadline terms left last_use }
+{
+    let times = end_of_times(&terms, last_use);
+    match due_by_terms(terms, left, last_use, Moment::first()) {
+        None => times,
+        Some(_) => None,
+    }
 }

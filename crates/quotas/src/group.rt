@@ -4,9 +4,10 @@ ghost use Rattle.std.specs.Option.{option_copied};
 ghost use Rattle.quotas.specs.Standing.{state_of};
 ghost use Rattle.quotas.specs.Quota.{Quota, new_quota, is_asked, gate_of, asked, frozen, answered, continued, used, shut_off, fired};
 ghost use Rattle.quotas.specs.Due.{due_of};
+ghost use Rattle.quotas.specs.Deadline.{deadline, IsDeadline};
 ghost use Rattle.quotas.specs.Steps.{quota_step};
 
-use crate::due::{due_by_container, due_by_terms};
+use crate::due::{deadline_by_terms, due_by_container, due_by_terms};
 use crate::standing::{
     Standing, bare_state, left_from, live_gate, spent_from, standing_from, without_quota,
 };
@@ -120,6 +121,24 @@ impl Group {
             }
         }
         due_by_container(open_container, unsafe_hour, limits)
+    }
+
+    /// The least moment at which `due` without an open container gives VALIDITY_TIME or QHT, and `None` exactly where there
+    /// is none within the range of moments (TS 32.290, quota management).
+    pub fn deadline(&self) -> Option<Moment>
+        ensures value { result ≡ deadline self.now }
+        ensures least { IsDeadline self.now result }
+    {
+        if self.is_asked() {
+            return None;
+        }
+        match self.standing {
+            Standing::Granted(terms) => {
+                let left = left_from(terms.amount, self.octets, self.seconds);
+                deadline_by_terms(terms, left, self.last_use)
+            }
+            _ => None,
+        }
     }
 
     /// Quota is wished for (TS 32.290, quota management). A group of state Unlimited needs none: its caller does not ask.

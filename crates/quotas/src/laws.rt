@@ -5,6 +5,7 @@ ghost use Rattle.units.specs.declared.trigger.TriggerType.{TriggerType};
 ghost use Rattle.quotas.specs.declared.state.Limits.{Limits};
 ghost use Rattle.quotas.specs.Quota.{Quota};
 ghost use Rattle.quotas.specs.Due.{due_of};
+ghost use Rattle.quotas.specs.Deadline.{RestsUntilDeadline};
 ghost use Rattle.quotas.specs.declared.step.Step.{Step};
 ghost use Rattle.quotas.specs.Steps.{quota_after};
 ghost use Rattle.quotas.specs.Laws.{IsOfTheList, StandsByTheList, AsksByTheList, DueByTheList, FitsGranted, IsQuietAfter};
@@ -27,4 +28,10 @@ pub fn fires_once()
         (limits : Limits) (trigger : TriggerType)
         → due_of q open_container unsafe_hour now limits ≡ Some trigger
         → IsQuietAfter q now limits trigger }
+{}
+
+/// Where no trigger of a group is due at the first moment, none is due before its deadline while no unsafe hour comes; so a
+/// group in which nothing is due is left alone until then (this product's own).
+pub fn rests_until_deadline()
+    ensures { (q : Quota) → RestsUntilDeadline q }
 {}

@@ -19,6 +19,6 @@ mod state;
 mod step;
 
 pub use group::Group;
-pub use laws::{by_whole_list, fires_once};
+pub use laws::{by_whole_list, fires_once, rests_until_deadline};
 pub use state::{Gate, Limits, State};
 pub use step::Step;
