@@ -7,8 +7,10 @@ pub mod Sessions
 pub mod Found
 pub mod Entered
 pub mod Swept
+pub mod Closable
 pub mod Begun
 pub mod Once
+pub mod InOrder
 pub mod Pushed
 pub mod Utf
 pub mod Over
