@@ -11,7 +11,7 @@ pub mod Closable
 pub mod Begun
 pub mod Once
 pub mod InOrder
-pub mod Pushed
+pub mod Fronted
 pub mod Utf
 pub mod Over
 pub mod Converting
