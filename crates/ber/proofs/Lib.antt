@@ -7,3 +7,4 @@ pub mod Bounds
 pub mod Shortest
 pub mod Nodes
 pub mod Measured
+pub mod Putting

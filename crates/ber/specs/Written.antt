@@ -46,6 +46,11 @@ abbrev mutual
 abbrev pub written : Element → List ℕ
 written e = identifier (tag_is e) ++ inside_written e
 
+-- The octets of elements, and others behind them (X.690 8.1.4).
+abbrev pub onto : Elements → List ℕ → List ℕ
+onto none behind = behind
+onto (more e es) behind = written e ++ onto es behind
+
 abbrev mutual
   -- How many contents octets each constructed element has, one around others before those (X.690 8.1.3).
   pub lengths_in : Element → List ℕ

@@ -9,21 +9,24 @@
 //! How it is built: what is read stands on a `Tape`, one list of nodes in order of their first octets, each with how
 //! many nodes behind it are within it; so reading takes memory only where the tape must grow. A `TlvRef` and a `Row`
 //! are views of a tape, and contracts see them as the elements that they are (`specs/Tape`). Writing finds out all
-//! lengths first (`measuring`) and then fills one buffer, without a second place for the contents of any element.
+//! lengths first (`measuring`) and then fills one buffer, without a second place for the contents of any element. A
+//! `BackwardWriter` takes elements without a tree, the last one first.
 //!
 //! Where a rule goes: on identifier and length octets into `specs/Spelling` (what is meant), `specs/Octets` (how it
 //! is read) and `identifier` or `length`; on positions into `specs/Reading` and `reading`, which alone knows them;
-//! on where what is read stands into `specs/Tape`, `node` and `tlv_ref`; on the written form into `specs/Written` and
-//! `writing`; on which element may stand where into the grammar above.
+//! on where what is read stands into `specs/Tape`, `node` and `tlv_ref`; on the written form into `specs/Written`,
+//! `placing` and `writing`; on which element may stand where into the grammar above.
 #![tactic(auto)]
 
 mod anything;
+mod backward;
 mod element;
 mod grammar;
 mod identifier;
 mod length;
 mod measuring;
 mod node;
+mod placing;
 mod reading;
 mod refusal;
 mod tag;
@@ -33,6 +36,7 @@ mod tlv_ref;
 mod writing;
 
 pub use anything::Anything;
+pub use backward::BackwardWriter;
 pub use element::{prefix_free, read, read_tlv};
 pub use grammar::{Grammar, Step};
 pub use length::value;

@@ -31,16 +31,16 @@ pub fn octet_count(n: u64) -> usize
     }
 }
 
-// How many octets a definite length takes.
-fn length_count(n: u64) -> usize
+/// How many octets a definite length takes.
+pub fn length_count(n: u64) -> usize
     ensures count { result ≡ length (length_octets n) }
     ensures bound { result ≤ 9 }
 {
     if n < 128 { 1 } else { 1 + octet_count(n) }
 }
 
-// How many octets a tag takes.
-fn tag_count(tag: &Tag) -> usize
+/// How many octets a tag takes.
+pub fn tag_count(tag: &Tag) -> usize
     ensures count { result ≡ length (identifier tag.now) }
     ensures bound { result ≤ 6 }
 {

@@ -7,9 +7,11 @@ pub mod Sessions
 pub mod Found
 pub mod Entered
 pub mod Swept
+pub mod Closable
 pub mod Begun
 pub mod Once
-pub mod Pushed
+pub mod InOrder
+pub mod Fronted
 pub mod Utf
 pub mod Over
 pub mod Converting

@@ -124,10 +124,10 @@ module _ (f : Used → ℕ) (n : ℕ) where
 
 -- ---- an open record is of its session
 
-abbrev Own : Session → Type 0
+abbrev pub Own : Session → Type 0
 Own z = IfSome z.unclosed (λ k. k.session ≡ z.number)
 
-abbrev AllOwn : List Session → Type 0
+abbrev pub AllOwn : List Session → Type 0
 AllOwn [] = Unit {0}
 AllOwn (z ∷ zs) = Own z × AllOwn zs
 
@@ -179,7 +179,7 @@ own_ended : (cause stamp : ℕ) (u : Option Kept) (closed : List Kept) (m : ℕ)
 own_ended cause stamp None closed m = tt
 own_ended cause stamp (Some k) closed m = tt
 
-own_of : (zs : List Session) (m : ℕ) → AllOwn zs → (o : Option Kept) → open_of zs m ≡ o → IfSome o (λ k. k.session ≡ m)
+pub own_of : (zs : List Session) (m : ℕ) → AllOwn zs → (o : Option Kept) → open_of zs m ≡ o → IfSome o (λ k. k.session ≡ m)
 own_of zs m own None is = tt
 own_of zs m own (Some k) is = own_found zs m k own is
 
@@ -189,7 +189,7 @@ own_after l (Added number used stamp last) b own = own_reopened b.sessions numbe
 own_after l (Ended number cause stamp) b own = own_reopened b.sessions number _ own (own_ended cause stamp (open_of b.sessions number) b.closed number)
 own_after l (ClosedAll stamp) b own = own_all_swept b.sessions stamp b.closed own
 
-all_own : (l : RecordLimits) (fs : List Filing) → AllOwn (records_after l fs).sessions
+pub all_own : (l : RecordLimits) (fs : List Filing) → AllOwn (records_after l fs).sessions
 all_own l [] = tt
 all_own l (f ∷ fs) = own_after l f (records_after l fs) (all_own l fs)
 

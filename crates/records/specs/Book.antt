@@ -1,5 +1,5 @@
 -- A book of records: what each call makes of it (TS 32.255, 5.2.3; TS 32.298, 5.1.5.0).
-use Rattle.std.specs.Prelude.{ℕ, ◌+◌, ◌==◌, nat_lt, Bool, List, [], ◌∷◌, ◌++◌, length, Option, Some, None, if◌then◌else◌}
+use Rattle.std.specs.Prelude.{ℕ, ◌+◌, ◌==◌, nat_lt, Bool, List, [], ◌∷◌, ◌++◌, length, Option, Some, None, sum_by, if◌then◌else◌}
 use Rattle.units.specs.declared.request.UnitUsage.{UnitUsage}
 use Rattle.records.specs.declared.limits.RecordLimits.{RecordLimits}
 use Rattle.records.specs.declared.record.Kept.{Kept}
@@ -83,6 +83,15 @@ sweeping k = if has_container k then Some 20 else None
 abbrev pub swept : ℕ → Option Kept → List Kept → Option Kept × List Kept
 swept stamp None closed = (None, closed)
 swept stamp (Some k) closed = settled k (sweeping k) stamp closed
+
+-- 1 where a record that is not closed has a container, else 0 (this product's own).
+abbrev pub closable_in : Option Kept → ℕ
+closable_in None = 0
+closable_in (Some k) = if has_container k then 1 else 0
+
+-- How many sessions have a record with a container that is not closed: so many are closed for management intervention (TS 32.298, 5.1.5.1.2).
+abbrev pub closable : List Session → ℕ
+closable ss = sum_by (λ z. closable_in z.unclosed) ss
 
 -- And of all sessions, in order of number (this product's own).
 abbrev pub all_swept : List Session → ℕ → List Kept → Records

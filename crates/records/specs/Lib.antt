@@ -6,6 +6,7 @@ pub mod Book
 pub mod Seen
 pub mod Named
 pub mod Once
+pub mod InOrder
 pub mod Fields
 pub mod Written
 pub mod Grammar

@@ -5,11 +5,12 @@ ghost use Rattle.std.specs.List.{insert};
 ghost use Rattle.units.specs.declared.request.UnitUsage.{UnitUsage as Entry};
 ghost use Rattle.records.specs.declared.filing.Filing.TheVariants.{Begun, Added, Ended, ClosedAll};
 ghost use Rattle.records.specs.Closing.{opened, no_limits};
-ghost use Rattle.records.specs.Book.{no_records, session_of, open_of, after, all_swept, with_one, with_open, added, ended, entered, reopened};
+ghost use Rattle.records.specs.Book.{no_records, session_of, open_of, closable, after, all_swept, with_one, with_open, added, ended, entered, reopened};
 ghost use Rattle.records.specs.Groups.{HasRoom, AreApart};
 ghost use Rattle.records.specs.Named.{named_as};
 ghost use Rattle.records.specs.Seen.{session_seen, sessions_seen, numbers_of, AreRising, SequenceIsWithin, SequencesAreWithin, kept_of, records_seen, HasRoomIn, HasRoomFor, IsThere, IsMissing, IsGap};
 
+use crate::by_number::{add_to, end_of, enter, found, make_room_of, sweep_all};
 use crate::limits::RecordLimits;
 use crate::record::{Kept, Record};
 use crate::session::SessionKept;
@@ -28,191 +29,22 @@ pub struct Book {
     numbers: Vec<u32>,
     sessions: Vec<SessionKept>,
     closed: Vec<Kept>,
+    // How many sessions have a record with a container that is not closed.
+    with_container: usize,
     // A record with the room of the session that begins next.
     next: Unclosed,
 }
 
 impl Model for Book {
     ghost use Rattle.std.specs.Prelude.{◌≡◌, ◌-◌, [], length, min, vec_len, vec_capacity};
+    ghost use Rattle.records.specs.Book.{closable};
     ghost use Rattle.records.specs.Seen.{BookSeen, sessions_seen, numbers_of, AreRising, SequencesAreWithin};
 
     ghost Value = { BookSeen };
 
     ghost view = { λ b. record { limits = b.limits; records = record { sessions = sessions_seen b.sessions.items; closed = b.closed.items }; kept = b.sessions.items; next = b.next; places = min (vec_capacity b.numbers - vec_len b.numbers) (vec_capacity b.sessions - vec_len b.sessions); spare = vec_capacity b.closed - vec_len b.closed } };
 
-    ghost invariant = { λ b. (b.numbers.items ≡ numbers_of b.sessions.items) × AreRising b.numbers.items × SequencesAreWithin (vec_len b.closed) b.sessions.items × (b.next.groups ≡ []) };
-}
-
-// Where a number is in rising ones, or where it would go.
-fn search(numbers: &[u32], number: u32) -> Result<usize, usize>
-    requires { AreRising numbers.now }
-    ensures { MatchResult result (IsThere numbers.now number) (IsGap numbers.now number) }
-{
-    numbers.binary_search(&number)
-}
-
-// The place of a number in rising ones; none exactly where it is not among them.
-fn place(numbers: &[u32], number: u32) -> Option<usize>
-    requires { AreRising numbers.now }
-    ensures { MatchOption result (IsMissing numbers.now number) (IsThere numbers.now number) }
-{
-    match search(numbers, number) {
-        Ok(at) => Some(at),
-        Err(_) => None,
-    }
-}
-
-// The session of a number.
-fn found<'a>(numbers: &[u32], sessions: &'a [SessionKept], number: u32) -> Option<&'a SessionKept>
-    requires same { numbers.now ≡ numbers_of sessions.now }
-    requires rising { AreRising numbers.now }
-    ensures { option_copied result ≡ kept_of sessions.now number }
-{
-    match place(numbers, number) {
-        Some(at) => Some(&sessions[at]),
-        None => None,
-    }
-}
-
-// Containers come to the session of a number.
-fn add_to(
-    alloc: Global,
-    limits: &RecordLimits,
-    numbers: &[u32],
-    sessions: &mut [SessionKept],
-    closed: &mut Vec<Kept>,
-    number: u32,
-    used: List<UnitUsage>,
-    stamp: Moment,
-    last: bool,
-)
-    requires same { numbers.now ≡ numbers_of sessions.old }
-    requires rising { AreRising numbers.now }
-    requires room { IfSome (kept_of sessions.old number) (λ z. IfSome z.unclosed (λ u. HasRoom u used)) }
-    requires spare { vec_len closed.old < vec_capacity closed.old }
-    requires few { vec_len closed.old < 2 ^ 32 - 2 }
-    requires sequences { SequencesAreWithin (vec_len closed.old) sessions.old }
-    ensures added { with_one number (records_seen sessions.old closed.old.items) (added limits.now used stamp last (open_of (sessions_seen sessions.old) number) closed.old.items) ≡ records_seen sessions.new closed.new.items }
-    ensures numbers { numbers_of sessions.new ≡ numbers_of sessions.old }
-    ensures sequences { SequencesAreWithin (vec_len closed.new) sessions.new }
-    ensures capacity { vec_capacity closed.new ≡ vec_capacity closed.old }
-    ensures len { vec_len closed.new ≤ vec_len closed.old + 1 }
-{
-    if let Some(at) = place(numbers, number) {
-        sessions[at].add(alloc, limits, closed, used, stamp, last);
-    }
-}
-
-// The session of a number ends.
-fn end_of(
-    numbers: &[u32],
-    sessions: &mut [SessionKept],
-    closed: &mut Vec<Kept>,
-    number: u32,
-    cause: u8,
-    stamp: Moment,
-)
-    requires same { numbers.now ≡ numbers_of sessions.old }
-    requires rising { AreRising numbers.now }
-    requires spare { vec_len closed.old < vec_capacity closed.old }
-    requires few { vec_len closed.old < 2 ^ 32 - 2 }
-    requires sequences { SequencesAreWithin (vec_len closed.old) sessions.old }
-    ensures ended { with_one number (records_seen sessions.old closed.old.items) (ended cause stamp (open_of (sessions_seen sessions.old) number) closed.old.items) ≡ records_seen sessions.new closed.new.items }
-    ensures numbers { numbers_of sessions.new ≡ numbers_of sessions.old }
-    ensures sequences { SequencesAreWithin (vec_len closed.new) sessions.new }
-    ensures capacity { vec_capacity closed.new ≡ vec_capacity closed.old }
-    ensures len { vec_len closed.new ≤ vec_len closed.old + 1 }
-{
-    if let Some(at) = place(numbers, number) {
-        sessions[at].end(closed, cause, stamp);
-    }
-}
-
-// Makes room for entries of the session of a number, where it is there.
-fn make_room_in(
-    numbers: &[u32],
-    sessions: &mut [SessionKept],
-    number: u32,
-    used: &[UnitUsage],
-) -> Result<(), AllocError>
-    requires same { numbers.now ≡ numbers_of sessions.old }
-    requires rising { AreRising numbers.now }
-    requires apart { AreApart used.now }
-    ensures room { OnOk result (IfSome (kept_of sessions.new number) (λ z. IfSome z.unclosed (λ u. HasRoom u used.now))) }
-    ensures kept { sessions_seen sessions.new ≡ sessions_seen sessions.old }
-    ensures numbers { numbers_of sessions.new ≡ numbers_of sessions.old }
-    ensures sequences { (n : ℕ) → SequencesAreWithin n sessions.old → SequencesAreWithin n sessions.new }
-{
-    match place(numbers, number) {
-        Some(at) => sessions[at].make_room(used),
-        None => Ok(()),
-    }
-}
-
-// The same of all sessions, with the room for more of them.
-fn make_room_of(
-    numbers: &[u32],
-    sessions: &mut Vec<SessionKept>,
-    number: u32,
-    used: &[UnitUsage],
-) -> Result<(), AllocError>
-    requires same { numbers.now ≡ numbers_of sessions.old.items }
-    requires rising { AreRising numbers.now }
-    requires apart { AreApart used.now }
-    ensures room { OnOk result (IfSome (kept_of sessions.new.items number) (λ z. IfSome z.unclosed (λ u. HasRoom u used.now))) }
-    ensures kept { sessions_seen sessions.new.items ≡ sessions_seen sessions.old.items }
-    ensures numbers { numbers_of sessions.new.items ≡ numbers_of sessions.old.items }
-    ensures sequences { (n : ℕ) → SequencesAreWithin n sessions.old.items → SequencesAreWithin n sessions.new.items }
-    ensures len { vec_len sessions.new ≡ vec_len sessions.old }
-    ensures capacity { vec_capacity sessions.new ≡ vec_capacity sessions.old }
-{
-    make_room_in(numbers, sessions, number, used)
-}
-
-// A session begins, in its place.
-fn enter(numbers: &mut Vec<u32>, sessions: &mut Vec<SessionKept>, new: SessionKept)
-    requires same { numbers.old.items ≡ numbers_of sessions.old.items }
-    requires rising { AreRising numbers.old.items }
-    requires fresh { kept_of sessions.old.items new.number ≡ None }
-    requires places { vec_len numbers.old < vec_capacity numbers.old }
-    requires room { vec_len sessions.old < vec_capacity sessions.old }
-    ensures entered { sessions_seen sessions.new.items ≡ entered (session_seen new) (sessions_seen sessions.old.items) }
-    ensures same { numbers.new.items ≡ numbers_of sessions.new.items }
-    ensures rising { AreRising numbers.new.items }
-    ensures kept { kept_of sessions.new.items new.number ≡ Some new }
-    ensures sequences { (n : ℕ) → SequencesAreWithin n sessions.old.items → SequenceIsWithin n new → SequencesAreWithin n sessions.new.items }
-{
-    let number = new.number;
-    match search(numbers, number) {
-        Ok(_) => unreachable!(),
-        Err(at) => {
-            match numbers.insert(at, number) {
-                Ok(()) => {}
-                Err(_) => unreachable!(),
-            }
-            match sessions.insert(at, new) {
-                Ok(()) => {}
-                Err(_) => unreachable!(),
-            }
-        }
-    }
-}
-
-// Every record that has a container is closed, in order of their sessions.
-fn sweep_all(alloc: Global, sessions: &mut [SessionKept], closed: &mut Vec<Kept>, stamp: Moment)
-    requires spare { vec_len closed.old + length sessions.old ≤ vec_capacity closed.old }
-    requires few { vec_len closed.old + length sessions.old < 2 ^ 32 - 1 }
-    requires sequences { SequencesAreWithin (vec_len closed.old) sessions.old }
-    ensures swept { all_swept (sessions_seen sessions.old) stamp closed.old.items ≡ records_seen sessions.new closed.new.items }
-    ensures numbers { numbers_of sessions.new ≡ numbers_of sessions.old }
-    ensures sequences { SequencesAreWithin (vec_len closed.new) sessions.new }
-    ensures capacity { vec_capacity closed.new ≡ vec_capacity closed.old }
-    ensures len { vec_len closed.new ≤ vec_len closed.old + length sessions.old }
-    ensures kept { vec_len closed.old ≤ vec_len closed.new }
-{
-    for session in sessions.iter_mut() {
-        session.sweep(alloc, closed, stamp);
-    }
+    ghost invariant = { λ b. (b.numbers.items ≡ numbers_of b.sessions.items) × AreRising b.numbers.items × SequencesAreWithin (vec_len b.closed) b.sessions.items × (b.next.groups ≡ []) × (b.with_container ≡ closable (sessions_seen b.sessions.items)) };
 }
 
 // A record with the names of its session.
@@ -245,6 +77,7 @@ impl Book {
             numbers: Vec::new(alloc),
             sessions: Vec::new(alloc),
             closed: Vec::new(alloc),
+            with_container: 0,
             next: Unclosed::empty(alloc),
         }
     }
@@ -329,6 +162,7 @@ impl Book {
             &self.numbers,
             &mut self.sessions,
             &mut self.closed,
+            &mut self.with_container,
             session,
             used,
             stamp,
@@ -348,6 +182,7 @@ impl Book {
             &self.numbers,
             &mut self.sessions,
             &mut self.closed,
+            &mut self.with_container,
             session,
             cause,
             stamp,
@@ -360,12 +195,29 @@ impl Book {
         requires spare { length self.old.records.sessions ≤ self.old.spare }
         requires few { length self.old.records.closed + length self.old.records.sessions < 2 ^ 32 - 1 }
         ensures records { self.new.records ≡ after self.old.limits (ClosedAll stamp) self.old.records }
-        ensures count { result ≡ length self.new.records.closed - length self.old.records.closed }
+        ensures count { result ≡ closable self.old.records.sessions }
+        ensures none { closable self.new.records.sessions ≡ 0 }
         ensures limits { self.new.limits ≡ self.old.limits }
     {
-        let before = self.closed.len();
+        let count = self.with_container;
         sweep_all(self.alloc, &mut self.sessions, &mut self.closed, stamp);
-        (self.closed.len() - before) as u32
+        self.with_container = 0;
+        count as u32
+    }
+
+    /// How many sessions have begun.
+    pub fn begun(&self) -> usize
+        ensures { result ≡ length self.now.records.sessions }
+    {
+        self.sessions.len()
+    }
+
+    /// How many sessions have a record with a container that is not closed: so many records `close_all` closes.
+    pub fn closable(&self) -> usize
+        ensures count { result ≡ closable self.now.records.sessions }
+        ensures bound { result ≤ length self.now.records.sessions }
+    {
+        self.with_container
     }
 
     /// The closed records, in order of closing.

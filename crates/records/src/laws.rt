@@ -1,6 +1,7 @@
 //! What holds of every list of calls, and of all octets of records.
 ghost use Rattle.std.specs.Prelude.{◌≡◌, ◌++◌, ◌<◌, ◌^◌, ℕ, List, length};
 ghost use Rattle.records.specs.Once.{ContainersStandOnce};
+ghost use Rattle.records.specs.InOrder.{ContainersInOrder};
 ghost use Rattle.records.specs.Reading.{SpellsRecord};
 ghost use Rattle.records.specs.declared.record.Record.{Record as RecordSeen};
 
@@ -10,6 +11,12 @@ use ber::prefix_free;
 /// often as it came: a law for proofs, which does nothing.
 pub fn containers_stand_once()
     ensures { ContainersStandOnce }
+{}
+
+/// After every list of calls the containers that came to a session, in order, are divided into its records, closed ones in
+/// order of closing and then the one that is not closed, each container in one: a law for proofs, which does nothing.
+pub fn containers_in_order()
+    ensures { ContainersInOrder }
 {}
 
 /// Of octets that memory can hold at most one beginning spells a record, and one record alone, so that no spelling of a record

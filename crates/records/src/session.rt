@@ -1,7 +1,7 @@
 //! A session of a book.
 ghost use Rattle.std.specs.Prelude.{◌≡◌, ℕ, OnOk, ◌≤◌, ◌<◌, ◌+◌, ◌-◌, ◌^◌, length, option_map, Some, IfSome, vec_len, vec_capacity};
 ghost use Rattle.records.specs.Closing.{opened, cause_at};
-ghost use Rattle.records.specs.Book.{and_closed, cause_of, sweeping, added, ended, swept, settled, with_open};
+ghost use Rattle.records.specs.Book.{closable_in, and_closed, cause_of, sweeping, added, ended, swept, settled, with_open};
 ghost use Rattle.records.specs.Groups.{HasRoom, AreApart};
 ghost use Rattle.records.specs.Seen.{session_seen, SequenceIsWithin, HasRoomIn};
 
@@ -72,6 +72,17 @@ fn settle(
 }
 
 impl SessionKept {
+    /// How many records of it can be closed for management intervention: 1 where that which is not closed has a container.
+    pub fn closable(&self) -> usize
+        ensures count { result ≡ closable_in (session_seen self.now).unclosed }
+        ensures bound { result ≤ 1 }
+    {
+        match &self.unclosed {
+            Some(record) if record.has_container() => 1,
+            _ => 0,
+        }
+    }
+
     /// Makes room for entries in its record, no two of one group. Nothing else changes, also where it fails.
     pub fn make_room(&mut self, used: &[UnitUsage]) -> Result<(), AllocError>
         requires apart { AreApart used.now }
@@ -85,8 +96,8 @@ impl SessionKept {
         }
     }
 
-    /// Containers come to it, for which it has room.
-    pub fn add(
+    // Containers come to it, for which it has room.
+    fn fill(
         &mut self,
         alloc: Global,
         limits: &RecordLimits,
@@ -118,8 +129,8 @@ impl SessionKept {
         }
     }
 
-    /// It ends, and its record is closed.
-    pub fn end(&mut self, closed: &mut Vec<Kept>, cause: u8, stamp: Moment)
+    // It ends, and its record is closed.
+    fn finish(&mut self, closed: &mut Vec<Kept>, cause: u8, stamp: Moment)
         requires spare { vec_len closed.old < vec_capacity closed.old }
         requires few { vec_len closed.old < 2 ^ 32 - 2 }
         ensures ended { ended cause stamp (session_seen self.old).unclosed closed.old.items ≡ ((session_seen self.new).unclosed, closed.new.items) }
@@ -132,6 +143,55 @@ impl SessionKept {
         if let Some(record) = self.unclosed.take() {
             put(closed, record, cause, stamp);
         }
+    }
+
+    /// Containers come to it, for which it has room; the count of closable records is that after it, where it was that before.
+    pub fn add(
+        &mut self,
+        alloc: Global,
+        limits: &RecordLimits,
+        closed: &mut Vec<Kept>,
+        count: &mut usize,
+        used: List<UnitUsage>,
+        stamp: Moment,
+        last: bool,
+    )
+        requires room { IfSome self.old.unclosed (λ u. HasRoom u used) }
+        requires spare { vec_len closed.old < vec_capacity closed.old }
+        requires few { vec_len closed.old < 2 ^ 32 - 2 }
+        requires sequence { SequenceIsWithin (vec_len closed.old) self.old }
+        requires counted { closable_in (session_seen self.old).unclosed ≤ count.old }
+        requires bound { count.old < 2 ^ 63 }
+        ensures added { added limits.now used stamp last (session_seen self.old).unclosed closed.old.items ≡ ((session_seen self.new).unclosed, closed.new.items) }
+        ensures session { session_seen self.new ≡ with_open (session_seen self.new).unclosed (session_seen self.old) }
+        ensures capacity { vec_capacity closed.new ≡ vec_capacity closed.old }
+        ensures len { vec_len closed.new ≤ vec_len closed.old + 1 }
+        ensures kept { vec_len closed.old ≤ vec_len closed.new }
+        ensures sequence { SequenceIsWithin (vec_len closed.new) self.new }
+        ensures counted { count.new + closable_in (session_seen self.old).unclosed ≡ count.old + closable_in (session_seen self.new).unclosed }
+    {
+        let before = self.closable();
+        self.fill(alloc, limits, closed, used, stamp, last);
+        *count = *count - before + self.closable();
+    }
+
+    /// It ends, and its record is closed; the count of closable records is that after it, where it was that before.
+    pub fn end(&mut self, closed: &mut Vec<Kept>, count: &mut usize, cause: u8, stamp: Moment)
+        requires spare { vec_len closed.old < vec_capacity closed.old }
+        requires few { vec_len closed.old < 2 ^ 32 - 2 }
+        requires counted { closable_in (session_seen self.old).unclosed ≤ count.old }
+        requires bound { count.old < 2 ^ 63 }
+        ensures ended { ended cause stamp (session_seen self.old).unclosed closed.old.items ≡ ((session_seen self.new).unclosed, closed.new.items) }
+        ensures session { session_seen self.new ≡ with_open (session_seen self.new).unclosed (session_seen self.old) }
+        ensures capacity { vec_capacity closed.new ≡ vec_capacity closed.old }
+        ensures len { vec_len closed.new ≤ vec_len closed.old + 1 }
+        ensures kept { vec_len closed.old ≤ vec_len closed.new }
+        ensures sequence { SequenceIsWithin (vec_len closed.new) self.new }
+        ensures counted { count.new + closable_in (session_seen self.old).unclosed ≡ count.old + closable_in (session_seen self.new).unclosed }
+    {
+        let before = self.closable();
+        self.finish(closed, cause, stamp);
+        *count = *count - before + self.closable();
     }
 
     /// Its record is closed where it has a container, and the next one opens.

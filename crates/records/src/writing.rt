@@ -1,19 +1,19 @@
-//! A record as octets.
-ghost use Rattle.std.specs.Prelude.{◌≡◌, ◌≤◌, ◌∷◌, [], IfOk, vec_len, vec_capacity};
+//! A record as octets, written from its last field to its first.
+ghost use Rattle.std.specs.Prelude.{◌≡◌, ◌≤◌, ◌++◌, ◌∷◌, [], ℕ, List as Listed, length, IfOk, OnOk};
 ghost use Rattle.moments.specs.Stamp.{stamp_octets};
 ghost use Rattle.ber.specs.Element as elements_of;
-ghost use Rattle.ber.specs.Element.{element, elements, joined, more, none};
-ghost use Rattle.ber.specs.Written.{written};
+ghost use Rattle.ber.specs.Element.{Elements, more, none};
+ghost use Rattle.ber.specs.Spelling.{Spells};
+ghost use Rattle.ber.specs.Written.{written, onto, IsBounded};
 ghost use Rattle.records.specs.Fitting.{FitsRecord};
 ghost use Rattle.records.specs.Reading.{SpellsRecord};
 ghost use Rattle.records.specs.Fields.{integer_count, integer_octets};
 ghost use Rattle.records.specs.Written.{number_field, text_field, stamp_field, each, trigger_element, triggers_field, amount_fields, time_fields, trigger_fields, used_element, usage_element, usage_field, name_fields, session_field, other_fields, record_element};
 
 use crate::record::Record;
-use ber::{Tag, Tlv, constructed, primitive, write_tlv};
+use ber::{BackwardWriter, Tag};
 use moments::{stamps_read_back, to_bcd};
-use sqlite_items::Items;
-use std::alloc::{AllocError, Global};
+use std::alloc::Global;
 use units::{List, Moment, OutOfMemory, Text, UnitUsage, Used};
 
 // How many octets a number below 2 ^ 63 takes.
@@ -40,236 +40,253 @@ fn octet_count(n: u64) -> usize
     }
 }
 
-// The octets of a number.
-fn integer(alloc: Global, n: u64) -> Result<List<u8>, AllocError>
-    ensures { IfOk result (λ l. l ≡ integer_octets n) }
-{
-    let octets = n.to_be_bytes();
-    if n < 1 << 63 {
-        let (_, last) = octets.split_at(8 - octet_count(n));
-        return Ok(List::from_vec(Vec::from_slice(alloc, last)?));
-    }
-    let [a, b, c, d, e, f, g, h] = octets;
-    let nine = [0, a, b, c, d, e, f, g, h];
-    Ok(List::from_vec(Vec::from_slice(alloc, &nine)?))
-}
-
 // A field of octets.
-fn field(number: u32, contents: List<u8>) -> Tlv
-    ensures { element result ≡ elements_of.primitive 2 number contents }
+fn field(out: &mut BackwardWriter, number: u32, contents: &[u8]) -> Result<(), OutOfMemory>
+    ensures { OnOk result (out.new ≡ written (elements_of.primitive 2 number contents.now) ++ out.old) }
 {
     let tag = Tag {
         class: 2,
         constructed: false,
         number,
     };
-    primitive(&tag, contents)
+    out.primitive(&tag, contents)
 }
 
-// An element of elements.
-fn group(class: u8, number: u32, inner: Vec<Tlv>) -> Tlv
-    ensures { element result ≡ elements_of.constructed class number (elements inner.items) }
+// An element around those in front of the last octets.
+fn close(out: &mut BackwardWriter, class: u8, number: u32, behind: usize) -> Result<(), OutOfMemory>
+    requires { behind ≤ length out.old }
+    ensures { (inner : Elements) (rest : Listed ℕ) → length rest ≡ behind → out.old ≡ onto inner rest → OnOk result (out.new ≡ written (elements_of.constructed class number inner) ++ rest) }
 {
     let tag = Tag {
         class,
         constructed: true,
         number,
     };
-    constructed(&tag, Items::from_vec(inner))
+    out.close(&tag, behind)
 }
 
-fn number(alloc: Global, tag: u32, n: u64) -> Result<Tlv, AllocError>
-    ensures { IfOk result (λ t. element t ≡ number_field tag n) }
+// A field with a number.
+fn number(out: &mut BackwardWriter, tag: u32, n: u64) -> Result<(), OutOfMemory>
+    ensures { OnOk result (out.new ≡ written (number_field tag n) ++ out.old) }
 {
-    Ok(field(tag, integer(alloc, n)?))
+    let octets = n.to_be_bytes();
+    if n < 1 << 63 {
+        let (_, last) = octets.split_at(8 - octet_count(n));
+        return field(out, tag, last);
+    }
+    let [a, b, c, d, e, f, g, h] = octets;
+    field(out, tag, &[0, a, b, c, d, e, f, g, h])
 }
 
-fn text(alloc: Global, tag: u32, text: &Text) -> Result<Tlv, AllocError>
-    ensures { IfOk result (λ t. element t ≡ text_field tag text.now) }
+// The same of a smaller number.
+fn small(out: &mut BackwardWriter, tag: u32, n: u32) -> Result<(), OutOfMemory>
+    ensures { OnOk result (out.new ≡ written (number_field tag n) ++ out.old) }
 {
-    let contents = Vec::from_slice(alloc, text.as_str().as_bytes())?;
-    Ok(field(tag, List::from_vec(contents)))
+    number(out, tag, u64::from(n))
 }
 
-fn stamp(alloc: Global, tag: u32, moment: Moment) -> Result<Tlv, AllocError>
-    ensures { IfOk result (λ t. element t ≡ stamp_field tag moment) }
+fn text(out: &mut BackwardWriter, tag: u32, text: &Text) -> Result<(), OutOfMemory>
+    ensures { OnOk result (out.new ≡ written (text_field tag text.now) ++ out.old) }
 {
-    let octets = to_bcd(moment);
-    let contents = Vec::from_slice(alloc, &octets)?;
-    Ok(field(tag, List::from_vec(contents)))
+    field(out, tag, text.as_str().as_bytes())
+}
+
+fn stamp(out: &mut BackwardWriter, tag: u32, moment: Moment) -> Result<(), OutOfMemory>
+    ensures { OnOk result (out.new ≡ written (stamp_field tag moment) ++ out.old) }
+{
+    field(out, tag, &to_bcd(moment))
 }
 
 // A trigger, as a UTF8String.
-fn trigger(alloc: Global, kind: &Text) -> Result<Tlv, AllocError>
-    ensures { IfOk result (λ t. element t ≡ trigger_element kind.now) }
+fn trigger(out: &mut BackwardWriter, kind: &Text) -> Result<(), OutOfMemory>
+    ensures { OnOk result (out.new ≡ written (trigger_element kind.now) ++ out.old) }
 {
-    let contents = Vec::from_slice(alloc, kind.as_str().as_bytes())?;
     let tag = Tag {
         class: 0,
         constructed: false,
         number: 12,
     };
-    Ok(primitive(&tag, List::from_vec(contents)))
+    out.primitive(&tag, kind.as_str().as_bytes())
 }
 
-fn triggers(alloc: Global, kinds: &[Text]) -> Result<Vec<Tlv>, AllocError>
-    ensures { IfOk result (λ ts. elements ts.items ≡ each trigger_element kinds.now) }
+fn triggers(out: &mut BackwardWriter, kinds: &[Text]) -> Result<(), OutOfMemory>
+    ensures { OnOk result (out.new ≡ onto (each trigger_element kinds.now) out.old) }
 {
-    let mut inner = Vec::new(alloc);
-    for kind in kinds {
-        inner.push(trigger(alloc, kind)?)?;
+    let mut left = kinds;
+    while let Some((last, front)) = left.split_last() {
+        trigger(out, last)?;
+        left = front;
     }
-    Ok(inner)
-}
-
-// Elements, and others behind them.
-fn with_more(first: Vec<Tlv>, more: Vec<Tlv>) -> Result<Vec<Tlv>, AllocError>
-    ensures { IfOk result (λ ts. elements ts.items ≡ joined (elements first.items) (elements more.items)) }
-{
-    let mut all = first;
-    let mut more = more;
-    all.append(&mut more)?;
-    Ok(all)
-}
-
-// The numbers of a container.
-fn amounts(alloc: Global, used: &Used) -> Result<Vec<Tlv>, OutOfMemory>
-    ensures { IfOk result (λ ts. elements ts.items ≡ amount_fields used.now) }
-{
-    let lsn = number(alloc, 0, u64::from(used.lsn))?;
-    let seconds = number(alloc, 1, u64::from(used.seconds))?;
-    let up = number(alloc, 2, used.up)?;
-    let down = number(alloc, 3, used.down)?;
-    Ok(Vec::from_array(alloc, [lsn, seconds, up, down])?)
-}
-
-// The times of a container.
-fn times(alloc: Global, used: &Used) -> Result<Vec<Tlv>, OutOfMemory>
-    ensures { IfOk result (λ ts. elements ts.items ≡ time_fields used.now) }
-{
-    let first = stamp(alloc, 4, used.first)?;
-    let last = stamp(alloc, 5, used.last)?;
-    Ok(Vec::from_array(alloc, [first, last])?)
+    Ok(())
 }
 
 // The field of the triggers, where there are some.
-fn triggers_of(alloc: Global, kinds: &[Text]) -> Result<Vec<Tlv>, OutOfMemory>
-    ensures { IfOk result (λ ts. elements ts.items ≡ triggers_field kinds.now) }
+fn triggers_of(out: &mut BackwardWriter, kinds: &[Text]) -> Result<(), OutOfMemory>
+    ensures { OnOk result (out.new ≡ onto (triggers_field kinds.now) out.old) }
 {
-    match kinds {
-        [] => Ok(Vec::new(alloc)),
-        [_, ..] => {
-            let all = group(2, 6, triggers(alloc, kinds)?);
-            Ok(Vec::from_array(alloc, [all])?)
-        }
+    if kinds.is_empty() {
+        return Ok(());
     }
+    let behind = out.len();
+    triggers(out, kinds)?;
+    close(out, 2, 6, behind)?;
+    Ok(())
 }
 
-// A field alone.
-fn alone(alloc: Global, one: Tlv) -> Result<Vec<Tlv>, OutOfMemory>
-    ensures { IfOk result (λ ts. elements ts.items ≡ more (element one) none) }
+// The numbers of a container.
+fn amounts(out: &mut BackwardWriter, used: &Used) -> Result<(), OutOfMemory>
+    ensures { OnOk result (out.new ≡ onto (amount_fields used.now) out.old) }
 {
-    Ok(Vec::from_array(alloc, [one])?)
+    number(out, 3, used.down)?;
+    number(out, 2, used.up)?;
+    small(out, 1, used.seconds)?;
+    small(out, 0, used.lsn)?;
+    Ok(())
+}
+
+// The times of a container.
+fn times(out: &mut BackwardWriter, used: &Used) -> Result<(), OutOfMemory>
+    ensures { OnOk result (out.new ≡ onto (time_fields used.now) out.old) }
+{
+    stamp(out, 5, used.last)?;
+    stamp(out, 4, used.first)?;
+    Ok(())
+}
+
+// The triggers of a container, and when they were.
+fn ending(out: &mut BackwardWriter, used: &Used) -> Result<(), OutOfMemory>
+    ensures { OnOk result (out.new ≡ onto (trigger_fields used.now) out.old) }
+{
+    stamp(out, 7, used.moment)?;
+    triggers_of(out, used.triggers.as_slice())?;
+    Ok(())
 }
 
 // A container.
-fn container(alloc: Global, used: &Used) -> Result<Tlv, OutOfMemory>
-    ensures { IfOk result (λ t. element t ≡ used_element used.now) }
+fn container(out: &mut BackwardWriter, used: &Used) -> Result<(), OutOfMemory>
+    ensures { OnOk result (out.new ≡ written (used_element used.now) ++ out.old) }
 {
-    let closed = alone(alloc, stamp(alloc, 7, used.moment)?)?;
-    let ending = with_more(triggers_of(alloc, used.triggers.as_slice())?, closed)?;
-    let later = with_more(times(alloc, used)?, ending)?;
-    let all = with_more(amounts(alloc, used)?, later)?;
-    Ok(group(0, 16, all))
+    let behind = out.len();
+    ending(out, used)?;
+    times(out, used)?;
+    amounts(out, used)?;
+    close(out, 0, 16, behind)?;
+    Ok(())
 }
 
 // Containers, in order.
-fn containers(alloc: Global, all: &[Used]) -> Result<Vec<Tlv>, OutOfMemory>
-    ensures { IfOk result (λ ts. elements ts.items ≡ each used_element all.now) }
+fn containers(out: &mut BackwardWriter, all: &[Used]) -> Result<(), OutOfMemory>
+    ensures { OnOk result (out.new ≡ onto (each used_element all.now) out.old) }
 {
-    let mut inner = Vec::new(alloc);
-    for one in all {
-        inner.push(container(alloc, one)?)?;
+    let mut left = all;
+    while let Some((last, front)) = left.split_last() {
+        container(out, last)?;
+        left = front;
     }
-    Ok(inner)
+    Ok(())
+}
+
+// The field of the containers.
+fn containers_of(out: &mut BackwardWriter, all: &[Used]) -> Result<(), OutOfMemory>
+    ensures { OnOk result (out.new ≡ written (elements_of.constructed 2 1 (each used_element all.now)) ++ out.old) }
+{
+    let behind = out.len();
+    containers(out, all)?;
+    close(out, 2, 1, behind)?;
+    Ok(())
 }
 
 // A unit usage.
-fn unit_usage(alloc: Global, usage: &UnitUsage) -> Result<Tlv, OutOfMemory>
-    ensures { IfOk result (λ t. element t ≡ usage_element usage.now) }
+fn unit_usage(out: &mut BackwardWriter, usage: &UnitUsage) -> Result<(), OutOfMemory>
+    ensures { OnOk result (out.new ≡ written (usage_element usage.now) ++ out.old) }
 {
-    let rating_group = number(alloc, 0, u64::from(usage.group))?;
-    let used = group(2, 1, containers(alloc, usage.used.as_slice())?);
-    let fields = Vec::from_array(alloc, [rating_group, used])?;
-    Ok(group(0, 16, fields))
+    let behind = out.len();
+    containers_of(out, usage.used.as_slice())?;
+    small(out, 0, usage.group)?;
+    close(out, 0, 16, behind)?;
+    Ok(())
 }
 
 // Unit usages, in order.
-fn unit_usages(alloc: Global, all: &[UnitUsage]) -> Result<Vec<Tlv>, OutOfMemory>
-    ensures { IfOk result (λ ts. elements ts.items ≡ each usage_element all.now) }
+fn unit_usages(out: &mut BackwardWriter, all: &[UnitUsage]) -> Result<(), OutOfMemory>
+    ensures { OnOk result (out.new ≡ onto (each usage_element all.now) out.old) }
 {
-    let mut inner = Vec::new(alloc);
-    for one in all {
-        inner.push(unit_usage(alloc, one)?)?;
+    let mut left = all;
+    while let Some((last, front)) = left.split_last() {
+        unit_usage(out, last)?;
+        left = front;
     }
-    Ok(inner)
+    Ok(())
 }
 
 // The field of the unit usages, where there are some.
-fn usage_of(alloc: Global, usage: &[UnitUsage]) -> Result<Vec<Tlv>, OutOfMemory>
-    ensures { IfOk result (λ ts. elements ts.items ≡ usage_field usage.now) }
+fn usage_of(out: &mut BackwardWriter, usage: &[UnitUsage]) -> Result<(), OutOfMemory>
+    ensures { OnOk result (out.new ≡ onto (usage_field usage.now) out.old) }
 {
-    match usage {
-        [] => Ok(Vec::new(alloc)),
-        [_, ..] => {
-            let all = group(2, 5, unit_usages(alloc, usage)?);
-            Ok(Vec::from_array(alloc, [all])?)
-        }
+    if usage.is_empty() {
+        return Ok(());
     }
+    let behind = out.len();
+    unit_usages(out, usage)?;
+    close(out, 2, 5, behind)?;
+    Ok(())
 }
 
 // The record type and the names.
-fn names(alloc: Global, entry: &Record) -> Result<Vec<Tlv>, OutOfMemory>
-    ensures { IfOk result (λ ts. elements ts.items ≡ name_fields entry.now) }
+fn names(out: &mut BackwardWriter, entry: &Record) -> Result<(), OutOfMemory>
+    ensures { OnOk result (out.new ≡ onto (name_fields entry.now) out.old) }
 {
-    let kind = number(alloc, 0, 200)?;
-    let function = text(alloc, 1, &entry.function)?;
-    let subscriber = text(alloc, 2, &entry.subscriber)?;
-    let consumer = text(alloc, 3, &entry.consumer)?;
-    Ok(Vec::from_array(alloc, [kind, function, subscriber, consumer])?)
+    text(out, 3, &entry.consumer)?;
+    text(out, 2, &entry.subscriber)?;
+    text(out, 1, &entry.function)?;
+    number(out, 0, 200)?;
+    Ok(())
 }
 
 // The session.
-fn session(alloc: Global, charging_id: u32) -> Result<Tlv, OutOfMemory>
-    ensures { IfOk result (λ t. element t ≡ session_field charging_id) }
+fn session(out: &mut BackwardWriter, charging_id: u32) -> Result<(), OutOfMemory>
+    ensures { OnOk result (out.new ≡ written (session_field charging_id) ++ out.old) }
 {
-    let id = number(alloc, 0, u64::from(charging_id))?;
-    Ok(group(2, 13, alone(alloc, id)?))
+    let behind = out.len();
+    small(out, 0, charging_id)?;
+    close(out, 2, 13, behind)?;
+    Ok(())
 }
 
 // The other fields.
-fn others(alloc: Global, entry: &Record) -> Result<Vec<Tlv>, OutOfMemory>
-    ensures { IfOk result (λ ts. elements ts.items ≡ other_fields entry.now) }
+fn others(out: &mut BackwardWriter, entry: &Record) -> Result<(), OutOfMemory>
+    ensures { OnOk result (out.new ≡ onto (other_fields entry.now) out.old) }
 {
-    let opening = stamp(alloc, 6, entry.opening)?;
-    let duration = number(alloc, 7, u64::from(entry.duration))?;
-    let sequence = number(alloc, 8, u64::from(entry.sequence))?;
-    let cause = number(alloc, 9, u64::from(entry.cause))?;
-    let local = number(alloc, 11, u64::from(entry.local))?;
-    let session = session(alloc, entry.charging_id)?;
-    Ok(Vec::from_array(alloc, [opening, duration, sequence, cause, local, session])?)
+    session(out, entry.charging_id)?;
+    small(out, 11, entry.local)?;
+    number(out, 9, u64::from(entry.cause))?;
+    small(out, 8, entry.sequence)?;
+    small(out, 7, entry.duration)?;
+    stamp(out, 6, entry.opening)?;
+    Ok(())
 }
 
 // The element of a record.
-fn tree(alloc: Global, entry: &Record) -> Result<Tlv, OutOfMemory>
-    ensures { IfOk result (λ t. element t ≡ record_element entry.now) }
+fn whole(out: &mut BackwardWriter, entry: &Record) -> Result<(), OutOfMemory>
+    ensures { OnOk result (out.new ≡ written (record_element entry.now) ++ out.old) }
 {
-    let later = with_more(
-        usage_of(alloc, entry.usage.as_slice())?,
-        others(alloc, entry)?,
-    )?;
-    let all = with_more(names(alloc, entry)?, later)?;
-    Ok(group(2, 200, all))
+    let behind = out.len();
+    others(out, entry)?;
+    usage_of(out, entry.usage.as_slice())?;
+    names(out, entry)?;
+    close(out, 2, 200, behind)?;
+    Ok(())
+}
+
+// The octets of the element of a record.
+fn octets(alloc: Global, entry: &Record) -> Result<List<u8>, OutOfMemory>
+    ensures written { IfOk result (λ bytes. bytes ≡ written (record_element entry.now)) }
+    ensures spells { IsBounded 16 (record_element entry.now) → IfOk result (λ bytes. Spells 16 bytes (record_element entry.now)) }
+{
+    // Most records have fewer octets.
+    let mut out = BackwardWriter::new(alloc, 1024)?;
+    whole(&mut out, entry)?;
+    out.to_octets()
 }
 
 /// The octets of a record: definite shortest lengths, and its fields ascending (TS 32.298, 5.1.5.0; X.690 10.1).
@@ -280,6 +297,5 @@ pub fn write_record(alloc: Global, entry: &Record) -> Result<List<u8>, OutOfMemo
     ensures spells { FitsRecord entry.now → IfOk result (λ bytes. SpellsRecord bytes (entry.now, 0)) }
 {
     stamps_read_back();
-    let tlv = tree(alloc, entry)?;
-    write_tlv(alloc, &tlv)
+    octets(alloc, entry)
 }

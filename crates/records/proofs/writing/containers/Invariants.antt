@@ -1,7 +1,10 @@
-use Rattle.std.proofs.Common.{◌≡◌, drop}
-use Rattle.ber.specs.Element.{elements, joined}
+use Rattle.std.proofs.Common.{◌≡◌, length}
+use Rattle.ber.specs.Written.{onto}
 use Rattle.records.specs.Written.{each, used_element}
 use Rattle.records.proofs.writing.containers.Given as goal
 
-abbrev pub invariant-loop-one : goal.invariant-loop-one
-invariant-loop-one l = joined (elements l.inner.items) (each used_element (drop l.one-index l.all)) ≡ each used_element l.all
+abbrev pub invariant-loop-last : goal.invariant-loop-last
+invariant-loop-last l = onto (each used_element l.left) l.out ≡ onto (each used_element l.initial.left) l.initial.out
+
+abbrev pub decreases-loop-last : goal.decreases-loop-last
+decreases-loop-last l = length l.left

@@ -1,5 +1,7 @@
-use Rattle.std.proofs.Common.{◌∙◌, ℕ, sym, ap, subst, vec_len}
-use Rattle.records.specs.Seen.{numbers_of, AreRising, SequencesAreWithin}
+use Rattle.std.proofs.Common.{◌∙◌, ℕ, List, sym, ap, subst, vec_len}
+use Rattle.records.specs.declared.session.SessionKept.{SessionKept}
+use Rattle.records.specs.Book.{closable}
+use Rattle.records.specs.Seen.{sessions_seen, numbers_of, AreRising, SequencesAreWithin}
 use Rattle.records.proofs.book.Book.make_room.Goals as goal
 
 pub invariant_of-self-in_err-make_room_of : goal.invariant_of-self-in_err-make_room_of
@@ -8,6 +10,7 @@ invariant_of-self-in_err-make_room_of c = (
   subst AreRising (sym c.reserve.ensures.items) c.self.invariant.1,
   c.make_room_of.ensures.sequences _ (subst (λ (m : ℕ). SequencesAreWithin m c.reserve-2.new.self.items) (sym c.reserve-3.ensures.len) (subst (SequencesAreWithin (vec_len c.self.inside.closed)) (sym c.reserve-2.ensures.items) c.self.invariant.2)),
   c.make_room.ensures.none c.self.invariant.3,
+  c.self.invariant.4 ∙ ap (λ (zs : List SessionKept). closable (sessions_seen zs)) (sym c.reserve-2.ensures.items) ∙ ap closable (sym c.make_room_of.ensures.kept),
 )
 
 pub invariant_of-self-2 : goal.invariant_of-self-2
@@ -16,4 +19,5 @@ invariant_of-self-2 c = (
   subst AreRising (sym c.reserve.ensures.items) c.self.invariant.1,
   c.make_room_of.ensures.sequences _ (subst (λ (m : ℕ). SequencesAreWithin m c.reserve-2.new.self.items) (sym c.reserve-3.ensures.len) (subst (SequencesAreWithin (vec_len c.self.inside.closed)) (sym c.reserve-2.ensures.items) c.self.invariant.2)),
   c.make_room.ensures.none c.self.invariant.3,
+  c.self.invariant.4 ∙ ap (λ (zs : List SessionKept). closable (sessions_seen zs)) (sym c.reserve-2.ensures.items) ∙ ap closable (sym c.make_room_of.ensures.kept),
 )

@@ -1,0 +1,9 @@
+mod Order
+mod Ascending
+mod Limits
+mod Rows
+mod Taken
+mod Steps
+mod Kept
+mod Marks
+mod Turns

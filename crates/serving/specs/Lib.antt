@@ -1,0 +1,5 @@
+pub mod Sides
+pub mod Texts
+pub mod Talk
+pub mod Visits
+pub mod Laws
