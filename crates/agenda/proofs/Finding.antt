@@ -1,8 +1,8 @@
 -- The places with what is searched for, from the top row down.
-use Rattle.std.proofs.Common.{◌≡◌, ℕ, suc, ◌+◌, ◌*◌, ◌<◌, ◌≤◌, ◌||◌, Bool, true, false, cond, List, [], ◌∷◌, ◌++◌, length, get_or, refl, sym, ◌∙◌, ap, arith}
+use Rattle.std.proofs.Common.{◌≡◌, ℕ, suc, ◌+◌, ◌*◌, ◌<◌, ◌≤◌, ◌||◌, Bool, true, false, cond, List, [], ◌∷◌, ◌++◌, length, fold, get_or, refl, sym, ◌∙◌, ap, arith}
 use Rattle.agenda.specs.declared.mark.Mark.{Mark}
 use Rattle.agenda.specs.declared.mark.Search.{Search}
-use Rattle.agenda.specs.Marks.{quiet, both, finds, places_from}
+use Rattle.agenda.specs.Marks.{quiet, both, all_of, finds, places_from}
 use Rattle.agenda.specs.Rows.{halved, AreRows, first_row, child, spread, found_in}
 use Rattle.agenda.proofs.Pairs.{finds_both, finds_quiet}
 
@@ -82,3 +82,19 @@ found_all search row (above ∷ rows) r = ap (spread search row) (found_all sear
 pub found_first : (s : Search) (rows : List (List Mark)) → AreRows rows → 0 < length rows → found_in s rows ≡ places_from s 0 (first_row rows)
 found_first s [] r l = absurd (omega (arith, l))
 found_first s (row ∷ rows) r l = found_all s row rows r
+
+-- where the marks together do not have it, none has
+
+none_parts : (x y : Bool) → (x || y) ≡ false → (x ≡ false) × (y ≡ false)
+none_parts true y e = cc
+none_parts false y e = (refl, e)
+
+none_from : (s : Search) (at : ℕ) (m : Mark) (ms : List Mark) → finds s (fold both m ms) ≡ false → (finds s m ≡ false) × (places_from s at ms ≡ [])
+none_from s at m [] e = (e, refl)
+none_from s at m (x ∷ ms) e =
+    let rest = none_from s (at + 1) (both m x) ms e in
+    let parts = none_parts (finds s m) (finds s x) (sym (finds_both s m x) ∙ rest.0) in
+    (parts.0, ap (λ b. cond b (at ∷ places_from s (at + 1) ms) (places_from s (at + 1) ms)) parts.1 ∙ rest.1)
+
+pub none_found : (s : Search) (ms : List Mark) → finds s (all_of ms) ≡ false → places_from s 0 ms ≡ []
+none_found s ms e = (none_from s 0 quiet ms e).1

@@ -1,9 +1,10 @@
 //! The marks of all sessions.
 ghost use Rattle.std.specs.Prelude.{◌≡◌, ◌<◌, ◌+◌, ◌/◌, ◌++◌, [], ◌∷◌, ℕ, IfOk, OnOk, OnErr, length, replicate, slice_set, slice_index_or};
+ghost use Rattle.std.specs.Bool.{OnTrue};
 ghost use Rattle.agenda.specs.Marks.{quiet, all_of, places_from};
 ghost use Rattle.agenda.specs.Rows.{first_row, pair_at, set_rows, top, found_in, AreRows};
 
-use crate::mark::{Mark, Search, nothing};
+use crate::mark::{Mark, Search, is_found, is_same, nothing};
 use crate::row::{found_under, pair, rows_over, with_more};
 use std::alloc::Global;
 use std::marker::Model;
@@ -43,6 +44,14 @@ fn set_all(rows: &mut [List<Mark>], place: usize, mark: Mark)
         next = set_row(rows, level, at, next);
         at /= 2;
     }
+}
+
+// Whether a mark stands at a place already.
+fn has_at(rows: &[List<Mark>], place: usize, mark: &Mark) -> bool
+    ensures { OnTrue result (slice_set (first_row rows.now) place mark.now ≡ first_row rows.now) }
+{
+    let row = marks_of(rows);
+    place < row.len() && is_same(&row[place], mark)
 }
 
 // The mark at the top.
@@ -142,6 +151,9 @@ impl Agenda {
         ensures value { self.new.marks ≡ slice_set self.old.marks place mark }
         ensures room { self.new.room ≡ self.old.room }
     {
+        if has_at(self.rows.as_slice(), place, &mark) {
+            return;
+        }
         set_all(self.rows.as_mut_slice(), place, mark);
     }
 
@@ -159,6 +171,11 @@ impl Agenda {
         if self.rows.is_empty() {
             return Ok(Vec::new(alloc));
         }
-        found_down(alloc, search, self.rows.as_slice())
+        let together = self.all();
+        if is_found(search, &together) {
+            found_down(alloc, search, self.rows.as_slice())
+        } else {
+            Ok(Vec::new(alloc))
+        }
     }
 }

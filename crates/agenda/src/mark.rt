@@ -1,5 +1,6 @@
 //! A mark of a session: what is looked for.
 ghost use Rattle.std.specs.Prelude.{◌≡◌, ◌≤◌};
+ghost use Rattle.std.specs.Bool.{OnTrue};
 ghost use Rattle.quotas.specs.Deadline.{has_come};
 ghost use Rattle.agenda.specs.Marks.{quiet, first_send, both, finds};
 
@@ -81,4 +82,11 @@ pub fn is_found(search: &Search, mark: &Mark) -> bool
         Search::Due(now) => is_past(*now, mark.due),
         Search::Flies => mark.flies,
     }
+}
+
+/// Whether two marks are the same.
+pub fn is_same(a: &Mark, b: &Mark) -> bool
+    ensures { OnTrue result (a.now ≡ b.now) }
+{
+    a == b
 }

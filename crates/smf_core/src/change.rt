@@ -31,7 +31,7 @@ pub fn containers_from(alloc: Global, holdings: &[Holding]) -> Result<Vec<Contai
 pub fn held_from(alloc: Global, holdings: &[Holding]) -> Result<Vec<Holding>, OutOfMemory>
     ensures { IfOk result (λ v. v.items ≡ filter is_held holdings.now) }
 {
-    let mut held = Vec::new(alloc);
+    let mut held = Vec::with_capacity(alloc, holdings.len())?;
     for holding in holdings {
         if is_held_holding(holding) {
             held.push(*holding)?;

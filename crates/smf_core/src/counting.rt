@@ -143,6 +143,25 @@ fn with_joined(
     Ok(next)
 }
 
+// What a report makes of the containers, once this closed the group's open one.
+fn taken_after(
+    alloc: Global,
+    past: usize,
+    trigger: Option<TriggerType>,
+    report: &Report,
+    holdings: &[Holding],
+) -> Result<Vec<Holding>, OutOfMemory>
+    ensures { IfOk result (λ v. v.items ≡ joined_past past report.now (map (close_of report.now.group report.now.moment trigger) holdings.now)) }
+{
+    match trigger {
+        None => with_joined(alloc, past, report, holdings),
+        Some(_) => {
+            let closed = closed_in(alloc, report.group, report.moment, trigger, holdings)?;
+            with_joined(alloc, past, report, &closed)
+        }
+    }
+}
+
 fn counted_entry(report: &Report, entry: &Entry) -> Entry
     requires number { report.now.number + 1 < 2 ^ 32 }
     requires sum { report.now.up + report.now.down < 2 ^ 64 }
@@ -190,8 +209,7 @@ pub fn count(
     let holdings = draft.holdings.as_slice();
     let horizon = horizon_of(entry_in(draft.groups.as_slice(), report.group));
     let trigger = closing_trigger(&horizon, report, open_container(holdings, report.group));
-    let closed = closed_in(alloc, report.group, report.moment, trigger, holdings)?;
-    let taken = with_joined(alloc, past, report, &closed)?;
+    let taken = taken_after(alloc, past, trigger, report, holdings)?;
     let groups = counted_entries(alloc, report, draft.groups.as_slice())?;
     let came = at_once(before, draft, report.group, trigger);
     draft.course.last = report.moment;

@@ -9,7 +9,7 @@ ghost use Rattle.smf_model.specs.Freeze.{waiting_count, move_oldest, dropped, is
 use crate::draft::{Draft, Pending, request_of};
 use crate::rules::changes_for;
 use crate::sending::at_rest;
-use smf_model::{Entry, Holding, Life, Place, Session, SmfSetup, Why};
+use smf_model::{Entry, Holding, Life, Place, Session, SmfSetup, Why, ends_are_still};
 use std::alloc::Global;
 use units::{
     Ask, List, MOST_CONTAINERS, Moment, Operation, OutOfMemory, Request, Text, TriggerType,
@@ -69,7 +69,13 @@ pub fn drop_oldest(
     ensures { OnOk result (whole before.now draft.new ≡ dropped setup.now (whole before.now draft.old)) }
 {
     let holdings = draft.holdings.as_slice();
-    let over = count_waiting(holdings).saturating_sub(setup.held_max as usize);
+    let waiting = count_waiting(holdings);
+    let most = setup.held_max as usize;
+    if waiting <= most {
+        ends_are_still();
+        return Ok(());
+    }
+    let over = waiting - most;
     let kept = moved_oldest(alloc, over, Place::GivenUp(Why::HeldFull), holdings)?;
     draft.holdings = List::from_vec(kept);
     Ok(())

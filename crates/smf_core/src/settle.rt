@@ -1,13 +1,14 @@
 //! Triggers that are due at a moment, fired until none is.
 ghost use Rattle.std.specs.Prelude.{◌≡◌, IfOk, OnOk, map};
 ghost use Rattle.std.specs.List.{list_any};
+ghost use Rattle.smf_model.specs.Still.{is_due};
 ghost use Rattle.smf_core.specs.Draft.{whole};
 ghost use Rattle.smf_model.specs.Settle.{is_open, is_open_of, open_of, entry_of, due_with, due_in, fire, close, due_at, close_due, is_at_once, settled};
 
 use crate::draft::{Draft, rules_of};
 use crate::rules::{immediate_for, limits};
 use meter::is_split;
-use smf_model::{Entry, Holding, Place, Session, SmfSetup};
+use smf_model::{Entry, Holding, Place, Session, SmfSetup, ends_are_still};
 use std::alloc::Global;
 use units::{Container, List, Moment, OutOfMemory, TriggerType};
 
@@ -192,6 +193,17 @@ fn any_at_once(setup: &SmfSetup, now: Moment, before: &Session, draft: &Draft) -
     ))
 }
 
+// Whether a trigger is due in a rating group.
+fn any_due(setup: &SmfSetup, now: Moment, before: &Session, draft: &Draft) -> bool
+    ensures { result ≡ is_due setup.now now (whole before.now draft.now) }
+{
+    draft
+        .groups
+        .as_slice()
+        .iter()
+        .any(|e| due_of_entry(setup, now, before, draft, e).is_some())
+}
+
 /// Settles a session (TS 32.255, 5.2.1).
 pub fn settle(
     alloc: Global,
@@ -202,6 +214,10 @@ pub fn settle(
 ) -> Result<(), OutOfMemory>
     ensures { OnOk result (whole before.now draft.new ≡ settled setup.now now (whole before.now draft.old)) }
 {
+    if !any_due(setup, now, before, draft) {
+        ends_are_still();
+        return Ok(());
+    }
     let fired = fired_entries(alloc, setup, now, before, draft)?;
     let closed = closed_holdings(alloc, setup, now, before, draft)?;
     let came = any_at_once(setup, now, before, draft);

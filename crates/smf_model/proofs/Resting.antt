@@ -21,6 +21,7 @@ use Rattle.smf_model.specs.Settle.{is_open, is_waiting, open_of, entry_of, due_w
 use Rattle.smf_model.specs.Freeze.{waiting_count, move_oldest, freeze_by, freeze_due, dropped}
 use Rattle.smf_model.specs.Machine.{finished}
 use Rattle.smf_model.specs.Resting.{IsAtRest, within_range, unsafe_from, rest_end_with, rest_end_in, RestsUntilEnd}
+use Rattle.smf_model.specs.Still.{is_due}
 use Rattle.smf_model.proofs.Left.{finished_left}
 use Rattle.smf_model.proofs.Limits.{finished_within}
 
@@ -125,6 +126,15 @@ settled_same setup now s none =
     ∙ ap (λ b. record s { at_once = s.at_once || b }) (none_at_once setup now s s.groups none)
     ∙ ap (λ b. record s { at_once = b }) (or_none s.at_once)
 
+none_by : (setup : SmfSetup) (now : ℕ) (s : Session) (es : List Entry) → list_any (λ e. is_some (due_in setup now s e)) es ≡ false → NoneIsDueIn setup now s es
+none_by setup now s [] h = tt
+none_by setup now s (e ∷ es) h =
+    let both = or_parts (is_some (due_in setup now s e)) (list_any (λ x. is_some (due_in setup now s x)) es) h in
+    (is_none (due_in setup now s e) both.0, none_by setup now s es both.1)
+
+pub still_settled : (setup : SmfSetup) (now : ℕ) (s : Session) → is_due setup now s ≡ false → settled setup now s ≡ s
+still_settled setup now s h = settled_same setup now s (none_by setup now s s.groups h)
+
 -- and so does giving up none
 
 moved_none : (place : Place) (hs : List Holding) → move_oldest 0 place hs ≡ hs
@@ -135,7 +145,7 @@ moved_none place (h ∷ hs) = at (is_waiting h.place) (moved_none place hs)
     at true ih = ap (λ xs. h ∷ xs) ih
     at false ih = ap (λ xs. h ∷ xs) ih
 
-dropped_same : (setup : SmfSetup) (s : Session) → waiting_count s.holdings ≤ setup.held_max → dropped setup s ≡ s
+pub dropped_same : (setup : SmfSetup) (s : Session) → waiting_count s.holdings ≤ setup.held_max → dropped setup s ≡ s
 dropped_same setup s few =
     let none : waiting_count s.holdings - setup.held_max ≡ 0 = omega (arith, few) in
     ap (λ n. record s { holdings = move_oldest n (GivenUp HeldFull) s.holdings }) none ∙ ap (λ hs. record s { holdings = hs }) (moved_none (GivenUp HeldFull) s.holdings)

@@ -33,3 +33,4 @@ pub mod Resting
 pub mod Counts
 pub mod Once
 pub mod LatestRules
+pub mod Still

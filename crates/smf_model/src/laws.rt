@@ -1,5 +1,5 @@
 //! What holds of all lists of events.
-ghost use Rattle.std.specs.Prelude.{◌≡◌, ◌↔◌, ◌++◌, ◌∷◌, ℕ, None, List};
+ghost use Rattle.std.specs.Prelude.{◌≡◌, ◌≤◌, ◌↔◌, ◌++◌, false, ◌∷◌, ℕ, None, List};
 ghost use Rattle.std.specs.List.Sorted.{IsNonDecreasingBy};
 ghost use Rattle.units.specs.declared.report.Report.{Report};
 ghost use Rattle.units.specs.Cut.{reports_of};
@@ -31,6 +31,9 @@ ghost use Rattle.smf_model.specs.Limits.{WaitsAtMost};
 ghost use Rattle.smf_model.specs.declared.session.Session.{Session};
 ghost use Rattle.smf_model.specs.Machine.{finished};
 ghost use Rattle.smf_model.specs.Resting.{IsAtRest, RestsUntilEnd};
+ghost use Rattle.smf_model.specs.Still.{is_due};
+ghost use Rattle.smf_model.specs.Settle.{settled};
+ghost use Rattle.smf_model.specs.Freeze.{waiting_count, dropped};
 ghost use Rattle.smf_model.specs.Left.{NothingIsLeft, StaysClosed, AreOfSubscriber};
 ghost use Rattle.smf_model.specs.Reports.{reports, StandsByReports};
 ghost use Rattle.smf_model.specs.Came.{steps};
@@ -146,6 +149,13 @@ pub fn sessions_rest()
 {
     rests_until_deadline();
 }
+
+/// A law of events; it does nothing. To settle a session changes nothing where no trigger is due in it, and none of its containers is given up
+/// where no more wait than may (TS 32.255, 5.2.1).
+pub fn ends_are_still()
+    ensures settled { (setup : SmfSetup) (now : ℕ) (s : Session) → is_due setup now s ≡ false → settled setup now s ≡ s }
+    ensures dropped { (setup : SmfSetup) (s : Session) → waiting_count s.holdings ≤ setup.held_max → dropped setup s ≡ s }
+{}
 
 /// A law of events; it does nothing. As events go on a session that is ending or has ended does not come to life again, and the gate of each of its
 /// rating groups is closed (TS 32.290, quota management).
