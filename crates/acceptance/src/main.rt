@@ -11,6 +11,7 @@ mod devices;
 mod disks;
 mod elements;
 mod events;
+mod hosting;
 mod http;
 mod messages;
 mod quota_steps;
@@ -29,7 +30,7 @@ use units::OutOfMemory;
 const INPUT_LIMIT: usize = 1 << 24;
 
 /// The tables, by the words that begin their lines.
-const TABLES: [&str; 23] = [
+const TABLES: [&str; 24] = [
     "time",
     "stamp",
     "request",
@@ -53,6 +54,7 @@ const TABLES: [&str; 23] = [
     "http-request",
     "http-response",
     "http-cuts",
+    "serving",
 ];
 
 // What is answered on a case about times, messages and records.
@@ -128,6 +130,9 @@ fn answer_of_streams(
         ("http-request", [octets]) => http::requests(alloc, octets)?,
         ("http-response", [octets]) => http::responses(alloc, octets)?,
         ("http-cuts", [kind, octets]) => cuts::cuts(alloc, kind, octets)?,
+        ("serving", [connections, fails, replies, link_fails, most]) => {
+            hosting::hosting(alloc, connections, fails, replies, link_fails, most)?
+        }
         _ => return Ok(None),
     };
     Ok(Some(answer))

@@ -7,7 +7,8 @@ use Rattle.smf_model.specs.declared.session.Peer.{Peer}
 use Rattle.agenda.specs.declared.mark.Mark.{Mark}
 use Rattle.agenda.specs.declared.mark.Search.{Search}
 use Rattle.agenda.specs.declared.mark.Search.TheVariants.{Waits, Due, Flies}
-use Rattle.agenda.specs.Marks.{quiet, first_send, earlier, both, all_of, has_come, finds}
+use Rattle.quotas.specs.Deadline.{earlier, has_come}
+use Rattle.agenda.specs.Marks.{quiet, first_send, both, all_of, finds}
 use Rattle.agenda.specs.Rows.{halved, AreRows, first_row, top}
 
 -- two marks are one where their parts are

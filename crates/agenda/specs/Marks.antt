@@ -1,5 +1,6 @@
 -- What is found among marks: the least of each part, and the places of those that have what is searched for (this product's own).
-use Rattle.std.specs.Prelude.{ℕ, ◌+◌, ◌||◌, nat_lt, nat_le, Bool, false, if◌then◌else◌, min, Option, Some, None, List, [], ◌∷◌, fold}
+use Rattle.std.specs.Prelude.{ℕ, ◌+◌, ◌||◌, nat_lt, Bool, false, if◌then◌else◌, Option, Some, None, List, [], ◌∷◌, fold}
+use Rattle.quotas.specs.Deadline.{earlier, has_come}
 use Rattle.smf_model.specs.declared.session.Peer.{Peer}
 use Rattle.agenda.specs.declared.mark.Mark.{Mark}
 use Rattle.agenda.specs.declared.mark.Search.{Search}
@@ -15,12 +16,6 @@ first_send None b = b
 first_send (Some a) None = Some a
 first_send (Some a) (Some b) = if nat_lt b.0 a.0 then Some b else Some a
 
--- the lesser moment
-abbrev pub earlier : Option ℕ → Option ℕ → Option ℕ
-earlier None b = b
-earlier (Some a) None = Some a
-earlier (Some a) (Some b) = Some (min a b)
-
 -- two marks together
 abbrev pub both : Mark → Mark → Mark
 both a b = record { send = first_send a.send b.send; wait = earlier a.wait b.wait; due = earlier a.due b.due; flies = a.flies || b.flies }
@@ -28,11 +23,6 @@ both a b = record { send = first_send a.send b.send; wait = earlier a.wait b.wai
 -- marks together
 abbrev pub all_of : List Mark → Mark
 all_of marks = fold both quiet marks
-
--- there is a moment, and it has come
-abbrev pub has_come : ℕ → Option ℕ → Bool
-has_come now None = false
-has_come now (Some moment) = nat_le moment now
 
 -- a mark has what is searched for
 abbrev pub finds : Search → Mark → Bool

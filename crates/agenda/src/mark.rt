@@ -1,7 +1,9 @@
 //! A mark of a session: what is looked for.
 ghost use Rattle.std.specs.Prelude.{◌≡◌, ◌≤◌};
-ghost use Rattle.agenda.specs.Marks.{quiet, first_send, earlier, both, has_come, finds};
+ghost use Rattle.quotas.specs.Deadline.{has_come};
+ghost use Rattle.agenda.specs.Marks.{quiet, first_send, both, finds};
 
+use quotas::earlier;
 use smf_model::Peer;
 use units::Moment;
 
@@ -49,24 +51,14 @@ fn least_send(a: Option<(u32, Peer)>, b: Option<(u32, Peer)>) -> Option<(u32, Pe
     }
 }
 
-fn least(a: Option<Moment>, b: Option<Moment>) -> Option<Moment>
-    ensures { result ≡ earlier a b }
-{
-    match (a, b) {
-        (None, b) => b,
-        (a, None) => a,
-        (Some(x), Some(y)) => Some(x.min(y)),
-    }
-}
-
 /// The mark of two together.
 pub fn together(a: &Mark, b: &Mark) -> Mark
     ensures { result ≡ both a.now b.now }
 {
     Mark {
         send: least_send(a.send, b.send),
-        wait: least(a.wait, b.wait),
-        due: least(a.due, b.due),
+        wait: earlier(a.wait, b.wait),
+        due: earlier(a.due, b.due),
         flies: a.flies || b.flies,
     }
 }

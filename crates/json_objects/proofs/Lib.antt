@@ -3,3 +3,5 @@ mod InOrder
 mod Items
 mod LookUp
 mod ReadsBack
+mod Walk
+mod Listed

@@ -16,6 +16,7 @@
 mod body;
 mod cause;
 mod fields;
+mod lists;
 mod writer;
 
 pub use body::read_object;
@@ -24,4 +25,5 @@ pub use fields::{
     allowed, given, missing, name, needed_number_32, number, number_32, optional_number,
     optional_number_32, optional_time, or_empty, owned, required, required_if, time, wrong,
 };
+pub use lists::{names, put_texts};
 pub use writer::{ObjectWriter, written_values_read_back};

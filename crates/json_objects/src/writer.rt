@@ -153,6 +153,14 @@ impl ObjectWriter {
         }
     }
 
+    /// A text as the next item of a list.
+    pub fn item(&mut self, text: &str) -> Result<(), AllocError>
+        ensures ok { OnOk result (self.new.tokens ≡ self.old.tokens ++ tokens_of (string text.now)) }
+        ensures before { self.new.before ≡ self.old.before }
+    {
+        self.out.string(text)
+    }
+
     /// A text under a name.
     pub fn text(&mut self, name: &str, text: &str) -> Result<(), AllocError>
         ensures ok { OnOk result (self.new.tokens ≡ field_after self.old.tokens name.now (Some (string text.now))) }

@@ -54,7 +54,8 @@ pub fn due_by_container(
     None
 }
 
-fn earlier_of(a: Option<Moment>, b: Option<Moment>) -> Option<Moment>
+/// The earlier of two moments, where each may be none (this product's own).
+pub fn earlier(a: Option<Moment>, b: Option<Moment>) -> Option<Moment>
     ensures { result ≡ earlier a b }
 {
     match (a, b) {
@@ -79,7 +80,7 @@ fn end_of_times(terms: &Terms, last_use: Moment) -> Option<Moment>
     ensures { result ≡ earlier (end_of terms.now.stamp terms.now.validity) (end_of (max terms.now.stamp last_use) terms.now.holding) }
 {
     let since = terms.stamp.max(last_use);
-    earlier_of(end(terms.stamp, terms.validity), end(since, terms.holding))
+    earlier(end(terms.stamp, terms.validity), end(since, terms.holding))
 }
 
 // That moment, where the amount alone makes no trigger due.

@@ -18,6 +18,7 @@ mod standing;
 mod state;
 mod step;
 
+pub use due::earlier;
 pub use group::Group;
 pub use laws::{by_whole_list, fires_once, rests_until_deadline};
 pub use state::{Gate, Limits, State};

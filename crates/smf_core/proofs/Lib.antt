@@ -8,4 +8,4 @@ pub mod Turns
 pub mod Nexts
 pub mod Found
 pub mod Marked
-pub mod Flying
+pub mod Several

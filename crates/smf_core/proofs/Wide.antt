@@ -1,5 +1,5 @@
 -- What an event makes of a session is what it makes of the part of it that is kept; the containers that are held no more stay.
-use Rattle.std.proofs.Common.{◌≡◌, ℕ, ◌+◌, ◌-◌, ◌≤◌, ◌==◌, ◌&&◌, ◌||◌, List, [], ◌∷◌, ◌++◌, length, map, filter, refl, ◌∙◌, ap, arith, Bool, true, false, cond}
+use Rattle.std.proofs.Common.{◌≡◌, ℕ, ◌+◌, ◌-◌, ◌≤◌, ◌==◌, ◌&&◌, ◌||◌, List, [], ◌∷◌, ◌++◌, length, map, filter, fold, refl, ◌∙◌, ap, arith, Bool, true, false, cond}
 use Rattle.std.specs.Prelude.{Option, Some, None, is_some}
 use mathlib.Core.Path.{fun_ext}
 use Rattle.std.specs.List.{list_any}
@@ -34,6 +34,8 @@ use Rattle.smf_model.specs.Sending.{at_rest, latest_peer, with_peer}
 use Rattle.smf_model.specs.Rounds.{is_continue, with_loss, is_last, next_turn, next_round, continue_entry, broken_off, after_round, lost}
 use Rattle.smf_model.specs.Replies.{answer_holding, succeeded, replied, answered_by}
 use Rattle.smf_model.specs.Machine.{effect, finished}
+use Rattle.quotas.specs.Deadline.{earlier}
+use Rattle.smf_model.specs.Resting.{rest_end_with, rest_end_in, rest_end}
 use Rattle.smf_core.specs.Draft.{joined_past, counted_past, effect_past}
 use Rattle.smf_core.specs.Reads.{is_held}
 use Rattle.smf_core.specs.Caches.{merged, past_count, wide}
@@ -73,6 +75,18 @@ settled_wide all setup now s =
     ap (λ gs. record (wide all s) { groups = gs; holdings = map (close_due setup now (wide all s)) (merged all s.holdings); at_once = s.at_once || list_any (λ e. is_at_once (wide all s) e.number (due_in setup now (wide all s) e)) s.groups }) groups
     ∙ ap (λ hs. record (wide all s) { groups = map (λ e. fire (due_in setup now s e) e) s.groups; holdings = hs; at_once = s.at_once || list_any (λ e. is_at_once (wide all s) e.number (due_in setup now (wide all s) e)) s.groups }) holdings
     ∙ ap (λ b. record (wide all s) { groups = map (λ e. fire (due_in setup now s e) e) s.groups; holdings = merged all (map (close_due setup now s) s.holdings); at_once = s.at_once || b }) came
+
+-- how long it rests
+
+rest_with_wide : (all : List Holding) (setup : SmfSetup) (s : Session) (end : Option ℕ) (es : List Entry)
+    → fold (λ x e. earlier x (rest_end_in setup (wide all s) e)) end es ≡ fold (λ x e. earlier x (rest_end_in setup s e)) end es
+rest_with_wide all setup s end [] = refl
+rest_with_wide all setup s end (e ∷ es) =
+    ap (λ c. fold (λ x d. earlier x (rest_end_in setup (wide all s) d)) (earlier end (rest_end_with setup s c e)) es) (open_wide e.number all s.holdings)
+    ∙ rest_with_wide all setup s (earlier end (rest_end_in setup s e)) es
+
+pub rest_wide : (all : List Holding) (setup : SmfSetup) (s : Session) → rest_end setup (wide all s) ≡ rest_end setup s
+rest_wide all setup s = rest_with_wide all setup s None s.groups
 
 -- freezing
 

@@ -1,5 +1,6 @@
 -- What is kept of a session for speed: only what is held is looked at as events come. Of the public clauses only those on plans name some of these.
 use Rattle.std.specs.Prelude.{◌≡◌, ℕ, ◌+◌, ◌-◌, nat_lt, if◌then◌else◌, Option, unwrap_or, List, [], ◌∷◌, ◌++◌, map, filter, length, slice_set, slice_index}
+use Rattle.std.specs.List.{AllByRecursion}
 use Rattle.smf_model.specs.declared.session.Holding.{Holding}
 use Rattle.smf_model.specs.declared.session.Rule.{Rule}
 use Rattle.smf_model.specs.declared.session.Session.{Session}
@@ -15,6 +16,7 @@ use Rattle.smf_core.specs.Draft.{request_after}
 use Rattle.smf_core.specs.Reads.{is_held, containers_of}
 use Rattle.units.specs.declared.report.Container.{Container}
 use Rattle.agenda.specs.declared.mark.Mark.{Mark}
+use Rattle.smf_model.specs.Resting.{IsAtRest}
 use Rattle.smf_core.specs.Marking.{marks_of}
 
 -- the containers with others in place of those that are held, one after another; what is left of them comes at the end
@@ -143,10 +145,15 @@ sessions_of kept = map (λ k. k.session) kept
 abbrev pub numbers_of : List Session → List ℕ
 numbers_of sessions = map (λ s. s.number) sessions
 
--- what is kept beside the sessions: their numbers, and their marks
-pub record IsTied (index : List ℕ) (agenda : List Mark) (now : ℕ) (sessions : List Session) : Type 0 where
+-- each session is at rest
+abbrev pub AreAtRest : SmfSetup → List Session → Type 0
+AreAtRest setup sessions = AllByRecursion (IsAtRest setup) sessions
+
+-- what is kept beside the sessions, each at rest: their numbers, and their marks
+pub record IsTied (setup : SmfSetup) (index : List ℕ) (agenda : List Mark) (now : ℕ) (sessions : List Session) : Type 0 where
   pub numbers : index ≡ numbers_of sessions
-  pub marks : agenda ≡ marks_of now sessions
+  pub marks : agenda ≡ marks_of setup now sessions
+  pub rest : AreAtRest setup sessions
 
 -- what an event makes of a session that it touches
 abbrev pub stepped_by : SmfSetup → ℕ → SmfEvent → Session → Session

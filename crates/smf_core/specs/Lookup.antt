@@ -1,5 +1,6 @@
 -- An event by its own session: the answer to it, which is that of the whole machine (this product's own).
 use Rattle.std.specs.Prelude.{ℕ, nat_lt, Bool, false, if◌then◌else◌, Option, Some, None, option_and_then, List, length, Result, Ok, Err}
+use Rattle.units.specs.Limits.{most_groups}
 use Rattle.smf_model.specs.declared.session.Peer.{Peer}
 use Rattle.smf_model.specs.declared.session.Session.{Session}
 use Rattle.smf_model.specs.declared.event.SmfEvent.{SmfEvent}
@@ -45,7 +46,7 @@ answer_at now next Restart s = loss_answer s
 
 -- and where there is none, and an attempt is in flight or not
 abbrev pub answer_without : ℕ → Bool → SmfEvent → Result Seen SmfRefusal
-answer_without now flies (Attach session subscriber groups moment) = if nat_lt 16 (length groups) then Err TooManyGroups else Ok New
+answer_without now flies (Attach session subscriber groups moment) = if nat_lt most_groups (length groups) then Err TooManyGroups else Ok New
 answer_without now flies (Tick moment) = if nat_lt moment now then Err (MomentBack now) else Ok New
 answer_without now flies (Start session group moment) = Err NoSession
 answer_without now flies (Count session r) = Err NoSession

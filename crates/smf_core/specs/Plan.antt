@@ -53,7 +53,7 @@ added_in (Some k) = k.session ∷ []
 
 -- the machine as the plan leaves it
 abbrev pub applied : SmfPlan → Machine → Machine
-applied plan m = record { setup = m.setup; moment = plan.moment; sessions = sessions_next plan.next m.sessions ++ added_in plan.added }
+applied plan m = record { setup = m.setup; moment = plan.moment; count = plan.count; sessions = sessions_next plan.next m.sessions ++ added_in plan.added }
 
 -- what callers see: the machine; and what they need not look at, how it is kept, and for how many more sessions there is a place
 pub record Shown : Type 0 where

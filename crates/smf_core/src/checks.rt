@@ -10,7 +10,7 @@ use crate::sending::{is_sent, may_send};
 use crate::settle::entry_in;
 use quotas::{Gate, State};
 use smf_model::{Entry, Life, Peer, Seen, Session, SmfEvent, SmfRefusal};
-use units::{Moment, Reply, Report};
+use units::{MOST_GROUPS, MOST_REPORTS, Moment, Reply, Report};
 
 fn is_live_session(session: &Session) -> bool
     ensures { result ≡ is_live session.now.life }
@@ -70,7 +70,7 @@ fn is_full(entry: Option<Entry>, groups: usize) -> bool
     ensures { result ≡ is_full_for entry groups }
 {
     match entry {
-        None => groups >= 16,
+        None => groups >= MOST_GROUPS,
         Some(_) => false,
     }
 }
@@ -114,7 +114,7 @@ fn check_count(report: &Report, session: &Session) -> Result<Seen, SmfRefusal>
     if report.moment < session.last {
         return Err(SmfRefusal::MomentBack { last: session.last });
     }
-    if session.reports >= 1 << 20 {
+    if session.reports >= MOST_REPORTS {
         return Err(SmfRefusal::TooManyReports);
     }
     Ok(Seen::New)
@@ -228,7 +228,7 @@ pub fn check_missing(now: Moment, flies: bool, event: &SmfEvent) -> Result<Seen,
 {
     match event {
         SmfEvent::Attach { groups, .. } => {
-            if groups.len() > 16 {
+            if groups.len() > MOST_GROUPS {
                 Err(SmfRefusal::TooManyGroups)
             } else {
                 Ok(Seen::New)

@@ -12,8 +12,8 @@ use crate::sending::at_rest;
 use smf_model::{Entry, Holding, Life, Place, Session, SmfSetup, Why};
 use std::alloc::Global;
 use units::{
-    Ask, List, Moment, Operation, OutOfMemory, Request, Text, TriggerType, UnitUsage, Used, copy,
-    name_of_type,
+    Ask, List, MOST_CONTAINERS, Moment, Operation, OutOfMemory, Request, Text, TriggerType,
+    UnitUsage, Used, copy, name_of_type,
 };
 
 pub fn is_waiting_place(place: Place) -> bool
@@ -109,7 +109,7 @@ fn ending_next(before: &Session, draft: &Draft, reference: Option<u32>) -> Optio
     ensures { result ≡ ending_operation (whole before.now draft.now) reference }
 {
     let reference = reference?;
-    if count_waiting(draft.holdings.as_slice()) > 500 {
+    if count_waiting(draft.holdings.as_slice()) > MOST_CONTAINERS {
         Some(Operation::Update(reference))
     } else {
         Some(Operation::Release(reference))
@@ -234,7 +234,12 @@ fn next_request(
     let Some(number) = draft.course.count.checked_add(1) else {
         return Err(OutOfMemory);
     };
-    let holdings = moved_oldest(alloc, 500, Place::Frozen, draft.holdings.as_slice())?;
+    let holdings = moved_oldest(
+        alloc,
+        MOST_CONTAINERS,
+        Place::Frozen,
+        draft.holdings.as_slice(),
+    )?;
     let usage = usages_in(alloc, &holdings, draft.groups.as_slice())?;
     let consumer = copy(&setup.name)?;
     let subscriber = copy(&before.subscriber)?;
@@ -280,7 +285,12 @@ pub fn freeze_request(
     ensures { OnOk result (whole before.now draft.new ≡ with_request setup.now now operation (whole before.now draft.old)) }
 {
     let request = next_request(alloc, setup, now, operation, before, draft)?;
-    let holdings = moved_oldest(alloc, 500, Place::Frozen, draft.holdings.as_slice())?;
+    let holdings = moved_oldest(
+        alloc,
+        MOST_CONTAINERS,
+        Place::Frozen,
+        draft.holdings.as_slice(),
+    )?;
     let groups = frozen_entries(alloc, draft.groups.as_slice())?;
     draft.course.count = request.number;
     draft.course.at_once = false;

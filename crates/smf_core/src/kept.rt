@@ -146,10 +146,10 @@ impl Kept {
     }
 
     /// What of it is looked for.
-    pub fn mark(&self, now: Moment) -> Mark
-        ensures { result ≡ mark_of now self.now.session }
+    pub fn mark(&self, setup: &SmfSetup, now: Moment) -> Mark
+        ensures { result ≡ mark_of setup.now now self.now.session }
     {
-        mark(now, &self.session)
+        mark(setup, now, &self.session)
     }
 
     /// The peer of the attempt of its unanswered request that has no end, `None` exactly where there is none.

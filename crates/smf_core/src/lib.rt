@@ -7,7 +7,8 @@
 //! event works on these alone, through a `Draft`, which makes a `Change` that `Kept::take` writes without memory.
 //! `merged` (`specs/Caches`) says how the held ones stand for the whole session; each function of an event goes
 //! through it. What sends next is read from an agenda of the sessions' marks (`specs/Marking`), which `commit` sets
-//! anew where a session changes or waits no more. A restart looks at those in flight alone; a tick at each session.
+//! anew where a session changes or waits no more. A restart looks at those in flight alone, a tick at those whose
+//! rest ends (`resting`).
 //!
 //! Where a rule goes: its meaning into `smf_model`; a check into `answer_at` (`specs/Lookup`) and `checks`; an effect
 //! into a file beside `counting`, `changes` and `ending`; a trigger's limit into `rules`; what a request holds into `freeze`. Each is one more
@@ -29,6 +30,7 @@ mod kept;
 mod marks;
 mod next;
 mod plan;
+mod resting;
 mod rounds;
 mod rules;
 mod sending;

@@ -5,9 +5,10 @@ ghost use Rattle.smf_core.specs.Caches.{sessions_of};
 ghost use Rattle.smf_core.specs.Marking.{attempt_at, waits_until, mark_of, marks_of, remarked};
 
 use crate::kept::Kept;
+use crate::resting::rest_end;
 use crate::sending::{has_come, may_send, next_of_round};
 use agenda::{Agenda, Mark};
-use smf_model::{Peer, Session};
+use smf_model::{Peer, Session, SmfSetup};
 use units::Moment;
 
 // The attempt that a session may make.
@@ -34,36 +35,36 @@ fn wait_of(now: Moment, session: &Session) -> Option<Moment>
 }
 
 /// The mark of a session.
-pub fn mark(now: Moment, session: &Session) -> Mark
-    ensures { result ≡ mark_of now session.now }
+pub fn mark(setup: &SmfSetup, now: Moment, session: &Session) -> Mark
+    ensures { result ≡ mark_of setup.now now session.now }
 {
     Mark {
         send: attempt_of(now, session),
         wait: wait_of(now, session),
-        due: None,
+        due: rest_end(setup, session),
         flies: session.sending.in_flight,
     }
 }
 
 // The mark at a place is made anew.
-fn remark(agenda: &mut Agenda, now: Moment, sessions: &[Kept], at: usize)
+fn remark(agenda: &mut Agenda, setup: &SmfSetup, now: Moment, sessions: &[Kept], at: usize)
     requires { length agenda.old.marks ≡ length sessions.now }
-    ensures marks { agenda.new.marks ≡ slice_set agenda.old.marks at (slice_index_or (marks_of now (sessions_of sessions.now)) at quiet) }
+    ensures marks { agenda.new.marks ≡ slice_set agenda.old.marks at (slice_index_or (marks_of setup.now now (sessions_of sessions.now)) at quiet) }
     ensures room { agenda.new.room ≡ agenda.old.room }
 {
     if at >= sessions.len() {
         return;
     }
-    agenda.set(at, sessions[at].mark(now));
+    agenda.set(at, sessions[at].mark(setup, now));
 }
 
 /// The marks at places are made anew.
-pub fn wake(agenda: &mut Agenda, now: Moment, sessions: &[Kept], places: &[usize])
+pub fn wake(agenda: &mut Agenda, setup: &SmfSetup, now: Moment, sessions: &[Kept], places: &[usize])
     requires { length agenda.old.marks ≡ length sessions.now }
-    ensures marks { agenda.new.marks ≡ remarked (marks_of now (sessions_of sessions.now)) places.now agenda.old.marks }
+    ensures marks { agenda.new.marks ≡ remarked (marks_of setup.now now (sessions_of sessions.now)) places.now agenda.old.marks }
     ensures room { agenda.new.room ≡ agenda.old.room }
 {
     for at in places {
-        remark(agenda, now, sessions, *at);
+        remark(agenda, setup, now, sessions, *at);
     }
 }

@@ -1,12 +1,12 @@
 //! The sessions that an event changes.
-ghost use Rattle.std.specs.Prelude.{◌≡◌, ◌<◌, IfOk, OnOk, map, length, slice_set};
+ghost use Rattle.std.specs.Prelude.{◌≡◌, ◌<◌, None, IfOk, OnOk, map, length, slice_set};
 ghost use Rattle.smf_model.specs.Machine.{next_session};
 ghost use Rattle.smf_core.specs.Lookup.{subject};
 ghost use Rattle.smf_core.specs.Index.{AreApart, place_for};
 ghost use Rattle.smf_core.specs.Plan.{changed, sessions_next, turned, NextIsReady, AreReady, IsReadyAt, map_at};
 ghost use Rattle.smf_core.specs.Caches.{KeptAs, numbers_of, sessions_of};
-ghost use Rattle.smf_core.specs.Marking.{marks_of, flying_for};
-ghost use Rattle.smf_core.specs.Turns.{mapped_at, AreFrom, IsAt, with_next};
+ghost use Rattle.smf_core.specs.Marking.{marks_of};
+ghost use Rattle.smf_core.specs.Turns.{mapped_at, AreAll, AreFrom, IsAt, with_next};
 
 use crate::checks::subject;
 use crate::kept::Kept;
@@ -15,30 +15,6 @@ use agenda::Agenda;
 use smf_model::{SmfEvent, SmfSetup};
 use std::alloc::Global;
 use units::{List, Moment, OutOfMemory};
-
-// What an event makes of each session that it touches.
-fn all_turns(
-    alloc: Global,
-    setup: &SmfSetup,
-    now: Moment,
-    event: &SmfEvent,
-    sessions: &mut [Kept],
-) -> Result<Vec<Turn>, OutOfMemory>
-    ensures made { IfOk result (λ v. turned v.items (sessions_of sessions.old) ≡ map (next_session setup.now now event.now) (sessions_of sessions.old)) }
-    ensures ready { IfOk result (λ v. AreReady v.items sessions.new) }
-    ensures same { sessions_of sessions.new ≡ sessions_of sessions.old }
-{
-    let mut turns = Vec::new(alloc);
-    for at in 0..sessions.len() {
-        let kept = &mut sessions[at];
-        if !kept.is_touched(event) {
-            continue;
-        }
-        let change = kept.change(alloc, setup, now, event)?;
-        turns.push(Turn { at, change })?;
-    }
-    Ok(turns)
-}
 
 // What an event makes of its own session.
 fn one_change(
@@ -101,37 +77,18 @@ fn turns_at(
     Ok(turns)
 }
 
-// What a tick makes of each session, and a restart of those with an attempt in flight.
-fn several_turns(
-    alloc: Global,
-    setup: &SmfSetup,
-    now: Moment,
-    event: &SmfEvent,
-    flying: &[usize],
-    sessions: &mut [Kept],
-) -> Result<Vec<Turn>, OutOfMemory>
-    requires { flying.now ≡ flying_for now event.now (sessions_of sessions.old) }
-    ensures made { IfOk result (λ v. turned v.items (sessions_of sessions.old) ≡ map (next_session setup.now now event.now) (sessions_of sessions.old)) }
-    ensures ready { IfOk result (λ v. AreReady v.items sessions.new) }
-    ensures same { sessions_of sessions.new ≡ sessions_of sessions.old }
-{
-    match event {
-        SmfEvent::Restart => turns_at(alloc, setup, now, event, flying, sessions),
-        _ => all_turns(alloc, setup, now, event, sessions),
-    }
-}
-
-/// The sessions that an event changes, where this is the place of its own, and these are in flight where it is a restart.
+/// The sessions that an event changes, where this is the place of its own, and these are those of the several that it may change where it has
+/// none of its own.
 pub fn next_turns(
     alloc: Global,
     setup: &SmfSetup,
     now: Moment,
     event: &SmfEvent,
     place: Option<usize>,
-    flying: &[usize],
+    several: &[usize],
     sessions: &mut [Kept],
 ) -> Result<Next, OutOfMemory>
-    requires flying { flying.now ≡ flying_for now event.now (sessions_of sessions.old) }
+    requires several { subject event.now ≡ None → AreAll (next_session setup.now now event.now) (sessions_of sessions.old) several.now }
     requires place { place ≡ place_for (subject event.now) (numbers_of (sessions_of sessions.old)) }
     requires apart { AreApart (numbers_of (sessions_of sessions.old)) }
     ensures made { IfOk result (λ n. sessions_next n (sessions_of sessions.old) ≡ map (next_session setup.now now event.now) (sessions_of sessions.old)) }
@@ -140,7 +97,7 @@ pub fn next_turns(
 {
     match subject(event) {
         None => {
-            let turns = several_turns(alloc, setup, now, event, flying, sessions)?;
+            let turns = turns_at(alloc, setup, now, event, several, sessions)?;
             Ok(Next::Several(List::from_vec(turns)))
         }
         Some(_) => match place {
@@ -151,12 +108,19 @@ pub fn next_turns(
 }
 
 // The session at a place takes its change.
-fn take_at(agenda: &mut Agenda, now: Moment, sessions: &mut [Kept], at: usize, change: Change)
+fn take_at(
+    agenda: &mut Agenda,
+    setup: &SmfSetup,
+    now: Moment,
+    sessions: &mut [Kept],
+    at: usize,
+    change: Change,
+)
     requires ready { IsReadyAt at change sessions.old }
-    requires marks { agenda.old.marks ≡ marks_of now (sessions_of sessions.old) }
+    requires marks { agenda.old.marks ≡ marks_of setup.now now (sessions_of sessions.old) }
     ensures value { sessions_of sessions.new ≡ map_at at (changed change) (sessions_of sessions.old) }
     ensures others { (k : KeptAs) × (sessions.new ≡ slice_set sessions.old at k) }
-    ensures marks { agenda.new.marks ≡ marks_of now (sessions_of sessions.new) }
+    ensures marks { agenda.new.marks ≡ marks_of setup.now now (sessions_of sessions.new) }
     ensures room { agenda.new.room ≡ agenda.old.room }
 {
     if at >= sessions.len() {
@@ -164,38 +128,50 @@ fn take_at(agenda: &mut Agenda, now: Moment, sessions: &mut [Kept], at: usize, c
     }
     let kept = &mut sessions[at];
     kept.take(change);
-    agenda.set(at, kept.mark(now));
+    agenda.set(at, kept.mark(setup, now));
 }
 
 // Each session takes its change.
-fn take_all(agenda: &mut Agenda, now: Moment, sessions: &mut [Kept], turns: List<Turn>)
+fn take_all(
+    agenda: &mut Agenda,
+    setup: &SmfSetup,
+    now: Moment,
+    sessions: &mut [Kept],
+    turns: List<Turn>,
+)
     requires ready { AreReady turns sessions.old }
-    requires marks { agenda.old.marks ≡ marks_of now (sessions_of sessions.old) }
+    requires marks { agenda.old.marks ≡ marks_of setup.now now (sessions_of sessions.old) }
     ensures value { sessions_of sessions.new ≡ turned turns (sessions_of sessions.old) }
-    ensures marks { agenda.new.marks ≡ marks_of now (sessions_of sessions.new) }
+    ensures marks { agenda.new.marks ≡ marks_of setup.now now (sessions_of sessions.new) }
     ensures room { agenda.new.room ≡ agenda.old.room }
 {
     let mut turns = turns.into_vec();
     while let Some(turn) = turns.pop() {
         let Turn { at, change } = turn;
-        take_at(agenda, now, sessions, at, change);
+        take_at(agenda, setup, now, sessions, at, change);
     }
 }
 
 /// The sessions that an event changes take their changes, and their marks are as they are then.
-pub fn take_next(agenda: &mut Agenda, now: Moment, sessions: &mut [Kept], next: Next)
+pub fn take_next(
+    agenda: &mut Agenda,
+    setup: &SmfSetup,
+    now: Moment,
+    sessions: &mut [Kept],
+    next: Next,
+)
     requires ready { NextIsReady next sessions.old }
-    requires marks { agenda.old.marks ≡ marks_of now (sessions_of sessions.old) }
+    requires marks { agenda.old.marks ≡ marks_of setup.now now (sessions_of sessions.old) }
     ensures value { sessions_of sessions.new ≡ sessions_next next (sessions_of sessions.old) }
-    ensures marks { agenda.new.marks ≡ marks_of now (sessions_of sessions.new) }
+    ensures marks { agenda.new.marks ≡ marks_of setup.now now (sessions_of sessions.new) }
     ensures room { agenda.new.room ≡ agenda.old.room }
 {
     match next {
         Next::Nothing => {}
         Next::One(turn) => {
             let Turn { at, change } = turn;
-            take_at(agenda, now, sessions, at, change)
+            take_at(agenda, setup, now, sessions, at, change)
         }
-        Next::Several(turns) => take_all(agenda, now, sessions, turns),
+        Next::Several(turns) => take_all(agenda, setup, now, sessions, turns),
     }
 }

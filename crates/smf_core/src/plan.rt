@@ -47,6 +47,8 @@ pub enum Next {
 pub struct SmfPlan {
     pub(crate) seen: Seen,
     pub(crate) moment: Moment,
+    /// How many entries the list has then.
+    pub(crate) count: u32,
     pub(crate) next: Next,
     pub(crate) added: Option<Kept>,
     /// The places of the sessions that wait no more.

@@ -3,7 +3,7 @@ ghost use Rattle.std.specs.Prelude.{◌≡◌, nat_lt, IfOk, filter, option_map}
 ghost use Rattle.std.specs.List.{list_any};
 ghost use Rattle.smf_core.specs.Draft.{whole};
 ghost use Rattle.smf_model.specs.Categories.{same_type};
-ghost use Rattle.smf_model.specs.Rules.{rank, rank_of, rule_in, rule_at, after_earlier, placed, with_rule, with_first, firsts, with_rules, category_in, volume_in, seconds_in, changes_in, is_immediate, is_immediate_for, limits_of, within, changes_of};
+ghost use Rattle.smf_model.specs.Rules.{rank, rank_of, rule_in, rule_at, after_earlier, placed, with_rule, with_first, firsts, with_rules, category_in, volume_in, seconds_in, changes_in, is_immediate, is_immediate_for, limits_in, within, changes_of};
 
 use crate::categories::{immediate_by_default, is_same, order_of};
 use crate::draft::{Draft, rules_of};
@@ -191,11 +191,10 @@ pub fn immediate_for(before: &Session, draft: &Draft, group: u32, trigger: Trigg
     ))
 }
 
-/// The limits of a rating group's containers.
-pub fn limits(setup: &SmfSetup, before: &Session, draft: &Draft, group: u32) -> Limits
-    ensures { result ≡ limits_of setup.now (whole before.now draft.now) group }
+/// The limits of a rating group's containers, by the rules of its session.
+pub fn limits(setup: &SmfSetup, rules: &[Rule], group: u32) -> Limits
+    ensures { result ≡ limits_in setup.now rules.now group }
 {
-    let rules = rules_of(before, draft).as_slice();
     Limits {
         volume: volume(Some(group), rules).unwrap_or(volume(None, rules).unwrap_or(
             setup.volume_limit,

@@ -4,7 +4,7 @@ ghost use Rattle.std.specs.List.{list_any};
 ghost use Rattle.smf_core.specs.Draft.{whole};
 ghost use Rattle.smf_model.specs.Settle.{is_open, is_open_of, open_of, entry_of, due_with, due_in, fire, close, due_at, close_due, is_at_once, settled};
 
-use crate::draft::Draft;
+use crate::draft::{Draft, rules_of};
 use crate::rules::{immediate_for, limits};
 use meter::is_split;
 use smf_model::{Entry, Holding, Place, Session, SmfSetup};
@@ -55,7 +55,7 @@ fn due_trigger(
 ) -> Option<TriggerType>
     ensures { result ≡ due_with setup.now now (whole before.now draft.now) container entry.now }
 {
-    let limits = limits(setup, before, draft, entry.number);
+    let limits = limits(setup, rules_of(before, draft).as_slice(), entry.number);
     let unsafe_hour = match &container {
         None => false,
         Some(container) => is_split(&entry.horizon, container.last, now),

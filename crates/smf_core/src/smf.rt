@@ -7,8 +7,9 @@ ghost use Rattle.smf_core.specs.Lookup.{session_for, next_for, flies_for};
 ghost use Rattle.smf_model.specs.Sending.{send_of};
 ghost use Rattle.smf_core.specs.Reads.{request_in, flight_in, gate_at, expected_at, containers_in, held_in, holdings_in};
 ghost use Rattle.smf_core.specs.Plan.{added_in, applied, AddedIsReady, IsPlanOf, IsReady, IsRefused, NextIsReady, Takes};
-ghost use Rattle.smf_core.specs.Caches.{sessions_of, IsTied};
-ghost use Rattle.smf_core.specs.Marking.{flying_for, woken_by};
+ghost use Rattle.agenda.specs.Marks.{places_from};
+ghost use Rattle.smf_core.specs.Caches.{sessions_of, AreAtRest, IsTied};
+ghost use Rattle.smf_core.specs.Marking.{looked_at, marks_of, woken_by};
 
 use crate::checks::{check_missing, subject};
 use crate::index::Index;
@@ -19,7 +20,7 @@ use crate::plan::{Next, SmfPlan};
 use crate::step::{added_session, moment_after};
 use agenda::{Agenda, Search};
 use quotas::Gate;
-use smf_model::{Holding, Peer, Seen, SmfEvent, SmfRefusal, SmfSetup, copy_setup};
+use smf_model::{Holding, Peer, Seen, SmfEvent, SmfRefusal, SmfSetup, copy_setup, sessions_rest};
 use std::alloc::Global;
 use std::marker::Model;
 use units::{Container, List, Moment, OutOfMemory, Request};
@@ -52,18 +53,20 @@ fn added_kept(
 fn add(
     index: &mut Index,
     agenda: &mut Agenda,
+    setup: &SmfSetup,
     now: Moment,
     sessions: &mut Vec<Kept>,
     added: Option<Kept>,
 )
-    requires tied { IsTied index.old.numbers agenda.old.marks now (sessions_of sessions.old.items) }
+    requires rest { AreAtRest setup.now (added_in added) }
+    requires tied { IsTied setup.now index.old.numbers agenda.old.marks now (sessions_of sessions.old.items) }
     requires ready { AddedIsReady added (sessions_of sessions.old.items) (min (vec_capacity sessions.old - vec_len sessions.old) (min index.old.room agenda.old.room)) }
-    ensures tied { IsTied index.new.numbers agenda.new.marks now (sessions_of sessions.new.items) }
+    ensures tied { IsTied setup.now index.new.numbers agenda.new.marks now (sessions_of sessions.new.items) }
     ensures sessions { sessions_of sessions.new.items ≡ sessions_of sessions.old.items ++ added_in added }
 {
     if let Some(kept) = added {
         index.add(kept.number());
-        agenda.add(kept.mark(now));
+        agenda.add(kept.mark(setup, now));
         sessions.push_reserved(kept);
     }
 }
@@ -73,6 +76,7 @@ fn add(
 pub struct Smf {
     setup: SmfSetup,
     moment: Moment,
+    count: u32,
     index: Index,
     sessions: Vec<Kept>,
     agenda: Agenda,
@@ -85,9 +89,9 @@ impl Model for Smf {
 
     ghost Value = { Shown };
 
-    ghost view = { λ s. record { machine = record { setup = s.setup; moment = s.moment; sessions = sessions_of s.sessions.items }; kept = s.sessions.items; room = min (vec_capacity s.sessions - vec_len s.sessions) (min s.index.room s.agenda.room) } };
+    ghost view = { λ s. record { machine = record { setup = s.setup; moment = s.moment; count = s.count; sessions = sessions_of s.sessions.items }; kept = s.sessions.items; room = min (vec_capacity s.sessions - vec_len s.sessions) (min s.index.room s.agenda.room) } };
 
-    ghost invariant = { λ s. IsTied s.index.numbers s.agenda.marks s.moment (sessions_of s.sessions.items) };
+    ghost invariant = { λ s. IsTied s.setup s.index.numbers s.agenda.marks s.moment (sessions_of s.sessions.items) };
 }
 
 impl Smf {
@@ -99,6 +103,7 @@ impl Smf {
         Ok(Smf {
             setup,
             moment: Moment::first(),
+            count: 1,
             index: Index::new(alloc),
             sessions: Vec::new(alloc),
             agenda: Agenda::new(alloc),
@@ -163,24 +168,31 @@ impl Smf {
         Ok(())
     }
 
+    // The places of the sessions whose marks have what is searched for.
+    fn places(&self, alloc: Global, search: &Search) -> Result<List<usize>, OutOfMemory>
+        ensures { IfOk result (λ r. r ≡ places_from search.now 0 (marks_of self.now.machine.setup self.now.machine.moment self.now.machine.sessions)) }
+    {
+        let places = self.agenda.places(alloc, search)?;
+        Ok(List::from_vec(places))
+    }
+
     // The places of the sessions that wait no more once an event has come.
     fn woken(&self, alloc: Global, event: &SmfEvent) -> Result<List<usize>, OutOfMemory>
         ensures { IfOk result (λ r. r ≡ woken_by (now_after self.now.machine.moment event.now) self.now.machine) }
     {
         let now = moment_after(self.moment, event);
-        let places = self.agenda.places(alloc, &Search::Waits(now))?;
-        Ok(List::from_vec(places))
+        self.places(alloc, &Search::Waits(now))
     }
 
-    // The places of the sessions with an attempt in flight, where an event is a restart.
-    fn flying(&self, alloc: Global, event: &SmfEvent) -> Result<List<usize>, OutOfMemory>
-        ensures { IfOk result (λ r. r ≡ flying_for (now_after self.now.machine.moment event.now) event.now self.now.machine.sessions) }
+    // The places of the sessions that an event for all of them may change.
+    fn looked_at(&self, alloc: Global, event: &SmfEvent) -> Result<List<usize>, OutOfMemory>
+        ensures { IfOk result (λ r. r ≡ looked_at self.now.machine event.now) }
     {
         match event {
-            SmfEvent::Restart => {
-                let places = self.agenda.places(alloc, &Search::Flies)?;
-                Ok(List::from_vec(places))
+            SmfEvent::Tick { moment } => {
+                self.places(alloc, &Search::Due(self.moment.max(*moment)))
             }
+            SmfEvent::Restart => self.places(alloc, &Search::Flies),
             _ => Ok(List::new(alloc)),
         }
     }
@@ -191,12 +203,12 @@ impl Smf {
         alloc: Global,
         event: &SmfEvent,
         woken: List<usize>,
-        flying: &[usize],
+        several: &[usize],
     ) -> Result<SmfPlan, OutOfMemory>
         requires new { answer_of self.old.machine event.now ≡ Ok New }
         requires room { 0 < self.old.room }
         requires woken { woken ≡ woken_by (now_after self.old.machine.moment event.now) self.old.machine }
-        requires flying { flying.now ≡ flying_for (now_after self.old.machine.moment event.now) event.now self.old.machine.sessions }
+        requires several { several.now ≡ looked_at self.old.machine event.now }
         ensures made { IfOk result (λ p. applied p self.old.machine ≡ stepped self.old.machine event.now) }
         ensures seen { IfOk result (λ p. p.seen ≡ New) }
         ensures next { IfOk result (λ p. NextIsReady p.next self.new.kept) }
@@ -205,7 +217,12 @@ impl Smf {
         ensures woken { IfOk result (λ p. p.woken ≡ woken_by p.moment self.old.machine) }
         ensures same { self.new.machine ≡ self.old.machine }
     {
+        sessions_rest();
+        let Some(count) = self.count.checked_add(1) else {
+            return Err(OutOfMemory);
+        };
         let now = moment_after(self.moment, event);
+        let _seconds = now.seconds();
         let added = added_kept(alloc, &self.setup, now, event)?;
         let place = self.index.place(subject(event));
         let next = next_turns(
@@ -214,12 +231,13 @@ impl Smf {
             now,
             event,
             place,
-            flying,
+            several,
             &mut self.sessions,
         )?;
         Ok(SmfPlan {
             seen: Seen::New,
             moment: now,
+            count,
             next,
             added,
             woken,
@@ -238,13 +256,15 @@ impl Smf {
         SmfPlan {
             seen: Seen::Known,
             moment: self.moment,
+            count: self.count,
             next: Next::Nothing,
             added: None,
             woken: List::new(alloc),
         }
     }
 
-    /// What an event makes of the machine, with all the memory that it takes; nothing that is seen changes. Each event is refused, or
+    /// What an event makes of the machine, with all the memory that it takes; nothing that is seen changes. There is no place for more than
+    /// 2^32 - 1 entries of the list: want of memory. Each event is refused, or
     /// Known, by its checks in order: no session, session exists, too many groups, gate closed, out of step, too large, moment back,
     /// too many reports.
     pub fn plan(&mut self, alloc: Global, event: &SmfEvent) -> Result<SmfPlan, SmfRefusal>
@@ -257,9 +277,9 @@ impl Smf {
             Seen::Known => Ok(self.plan_known(alloc)),
             Seen::New => {
                 let woken = self.woken(alloc, event)?;
-                let flying = self.flying(alloc, event)?;
+                let several = self.looked_at(alloc, event)?;
                 self.make_room(alloc)?;
-                let plan = self.plan_new(alloc, event, woken, flying.as_slice())?;
+                let plan = self.plan_new(alloc, event, woken, several.as_slice())?;
                 Ok(plan)
             }
         }
@@ -283,16 +303,32 @@ impl Smf {
         let SmfPlan {
             seen,
             moment,
+            count,
             next,
             added,
             woken,
         } = plan;
-        wake(&mut self.agenda, moment, &self.sessions, woken.as_slice());
+        sessions_rest();
+        wake(
+            &mut self.agenda,
+            &self.setup,
+            moment,
+            &self.sessions,
+            woken.as_slice(),
+        );
         self.moment = moment;
-        take_next(&mut self.agenda, moment, &mut self.sessions, next);
+        self.count = count;
+        take_next(
+            &mut self.agenda,
+            &self.setup,
+            moment,
+            &mut self.sessions,
+            next,
+        );
         add(
             &mut self.index,
             &mut self.agenda,
+            &self.setup,
             moment,
             &mut self.sessions,
             added,
@@ -325,11 +361,11 @@ impl Smf {
         }
     }
 
-    /// How many sessions there are.
-    pub fn count(&self) -> usize
-        ensures { result ≡ length self.now.machine.sessions }
+    /// How many entries the list has: its setup, and each event that was new.
+    pub fn count(&self) -> u32
+        ensures { result ≡ self.now.machine.count }
     {
-        self.index.numbers().len()
+        self.count
     }
 
     /// The unanswered request of a session, with the mark of its next attempt; `None` exactly where there is none.

@@ -39,3 +39,7 @@ pub mod Excess
 pub mod ExcessRuns
 pub mod Apart
 pub mod Ended
+pub mod Resting
+pub mod Counts
+pub mod Once
+pub mod LatestRules

@@ -50,7 +50,7 @@ left_waiting most (h ∷ hs) = at (is_waiting h.place) (nat_lt 0 most) refl refl
 within : (most : ℕ) (hs : List Holding) → waiting_count (move_oldest (waiting_count hs - most) (GivenUp HeldFull) hs) ≤ most
 within most hs = let left = left_waiting (waiting_count hs - most) hs in omega (arith, left)
 
-finished_within : (setup : SmfSetup) (now : ℕ) (s : Session) → waiting_count (finished setup now s).holdings ≤ setup.held_max
+pub finished_within : (setup : SmfSetup) (now : ℕ) (s : Session) → waiting_count (finished setup now s).holdings ≤ setup.held_max
 finished_within setup now s = within setup.held_max (freeze_due setup now (settled setup now s)).holdings
 
 abbrev Waits : ℕ → List ℕ → Session → Type 0

@@ -7,6 +7,7 @@ use Rattle.units.specs.declared.request.Request.{Request}
 use Rattle.sessions.specs.Kept.{occurs_in}
 use Rattle.sessions.specs.Trace.{Move, closed_as, IsWaiting}
 use Rattle.sessions.specs.Trace.Move.{Freezes}
+use Rattle.units.specs.Limits.{most_containers}
 use Rattle.units.specs.Words.{name_of_type}
 use Rattle.smf_model.specs.Settle.{is_waiting}
 use Rattle.smf_model.specs.Places.{place_of}
@@ -34,7 +35,7 @@ waiting_to trace (suc lsn) = (if is_waiting (place_of trace (suc lsn)) then 1 el
 -- a request that is frozen after these moves
 pub record IsContent (earlier : List Move) (q : Request) : Type 0 where
   pub as_closed : HoldsAsClosed earlier q
-  pub oldest : (lsn : ℕ) → 0 < lsn → (0 < occurs_in lsn q.usage) ↔ (IsWaiting earlier lsn × (waiting_to earlier lsn ≤ 500))
+  pub oldest : (lsn : ℕ) → 0 < lsn → (0 < occurs_in lsn q.usage) ↔ (IsWaiting earlier lsn × (waiting_to earlier lsn ≤ most_containers))
 
 -- so of each request
 abbrev pub AreContents : List Move → Type 0

@@ -20,6 +20,7 @@ use Rattle.smf_model.specs.declared.session.Place.TheVariants.{Frozen, GivenUp}
 use Rattle.smf_model.specs.declared.session.Holding.{Holding}
 use Rattle.smf_model.specs.declared.session.Entry.{Entry}
 use Rattle.smf_model.specs.declared.session.Session.{Session}
+use Rattle.units.specs.Limits.{most_containers}
 use Rattle.units.specs.Words.{name_of_type}
 use Rattle.smf_model.specs.Rules.{changes_of}
 use Rattle.smf_model.specs.Sending.{at_rest}
@@ -56,7 +57,7 @@ live_operation setup s (Some reference) =
 -- an ending one releases, with an Update before where more wait than one request holds
 abbrev pub ending_operation : Session → Option ℕ → Option Operation
 ending_operation s None = None
-ending_operation s (Some reference) = if nat_lt 500 (waiting_count s.holdings) then Some (Update reference) else Some (Release reference)
+ending_operation s (Some reference) = if nat_lt most_containers (waiting_count s.holdings) then Some (Update reference) else Some (Release reference)
 
 -- the operation that is due, by how far the session is
 abbrev pub operation_in : SmfSetup → Session → Life → Option Operation
@@ -124,7 +125,7 @@ request_of setup now s operation = record {
   stamp = now;
   again = false;
   notify = None;
-  usage = usages (move_oldest 500 Frozen s.holdings) s.groups;
+  usage = usages (move_oldest most_containers Frozen s.holdings) s.groups;
   triggers = triggers_of operation s.life;
 }
 
@@ -138,7 +139,7 @@ with_request setup now operation s = record s {
   count = s.count + 1;
   at_once = false;
   groups = map freeze_entry s.groups;
-  holdings = move_oldest 500 Frozen s.holdings;
+  holdings = move_oldest most_containers Frozen s.holdings;
   request = Some (request_of setup now s operation);
   sending = at_rest;
 }

@@ -29,3 +29,7 @@ pub mod Sent
 pub mod Flights
 pub mod Left
 pub mod Among
+pub mod Resting
+pub mod Counts
+pub mod Once
+pub mod LatestRules

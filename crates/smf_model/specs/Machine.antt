@@ -1,9 +1,10 @@
 -- The machine: its answer to each event, in the order of its checks, and the step that a new event is (TS 32.255, 5.2.1; TS 32.290, 5.3.2).
-use Rattle.std.specs.Prelude.{ℕ, ◌^◌, ◌==◌, ◌&&◌, ◌||◌, not, nat_lt, nat_le, Bool, true, false, if◌then◌else◌, max, Option, Some, None, List, [], ◌∷◌, ◌++◌, map, fold, length, Result, Ok, Err}
+use Rattle.std.specs.Prelude.{ℕ, ◌+◌, ◌==◌, ◌&&◌, ◌||◌, not, nat_lt, nat_le, Bool, true, false, if◌then◌else◌, max, Option, Some, None, List, [], ◌∷◌, ◌++◌, map, fold, length, Result, Ok, Err}
 use Rattle.std.specs.List.{find, list_any}
 use Rattle.units.specs.declared.report.Report.{Report}
 use Rattle.units.specs.declared.reply.Reply.{Reply}
 use Rattle.units.specs.declared.request.Operation.TheVariants.{Create}
+use Rattle.units.specs.Limits.{most_groups, most_reports}
 use Rattle.meter.specs.Admission.{is_too_large}
 use Rattle.quotas.specs.declared.state.Gate.{Gate}
 use Rattle.quotas.specs.declared.state.Gate.TheVariants.{Passing, Waiting, Closed}
@@ -75,7 +76,7 @@ is_served (Some e) = is_granted e.quota.standing || (is_unlimited e.quota.standi
 
 -- a new rating group, where there are 16
 abbrev pub is_full_for : Option Entry → ℕ → Bool
-is_full_for None groups = nat_le 16 groups
+is_full_for None groups = nat_le most_groups groups
 is_full_for (Some e) groups = false
 
 -- the checks of each event, in order; what comes first decides
@@ -97,7 +98,7 @@ count_answer r s =
     (if not (r.number == expected_of r.group s) then Err (OutOfStep (expected_of r.group s)) else
     (if is_too_large r then Err TooLarge else
     (if nat_lt r.moment s.last then Err (MomentBack s.last) else
-    (if nat_le (2 ^ 20) s.reports then Err TooManyReports else
+    (if nat_le most_reports s.reports then Err TooManyReports else
     Ok New)))))
 
 -- charging conditions change
@@ -146,7 +147,7 @@ on_session (Some s) answer = answer s
 -- a PDU session begins
 abbrev pub attach_answer : Option Session → ℕ → Result Seen SmfRefusal
 attach_answer (Some s) groups = Err SessionExists
-attach_answer None groups = if nat_lt 16 groups then Err TooManyGroups else Ok New
+attach_answer None groups = if nat_lt most_groups groups then Err TooManyGroups else Ok New
 
 -- each event, by the session that it names
 abbrev pub answer_in : ℕ → List Session → SmfEvent → Result Seen SmfRefusal
@@ -234,6 +235,7 @@ abbrev pub stepped : Machine → SmfEvent → Machine
 stepped m event = record {
   setup = m.setup;
   moment = now_after m.moment event;
+  count = m.count + 1;
   sessions = map (next_session m.setup (now_after m.moment event) event) m.sessions ++ added_by m.setup (now_after m.moment event) event;
 }
 
@@ -247,9 +249,9 @@ after_answer m event (Err e) = m
 abbrev pub step : Machine → SmfEvent → Machine
 step m event = after_answer m event (answer_of m event)
 
--- a machine without sessions
+-- a machine without sessions, whose setup is the first entry of its list
 abbrev pub empty : SmfSetup → Machine
-empty setup = record { setup = setup; moment = 0; sessions = [] }
+empty setup = record { setup = setup; moment = 0; count = 1; sessions = [] }
 
 -- the machine after these events, the newest first
 abbrev pub machine_after : SmfSetup → List SmfEvent → Machine

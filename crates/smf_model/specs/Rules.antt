@@ -94,11 +94,15 @@ abbrev pub is_immediate_for : Session → ℕ → TriggerType → Bool
 is_immediate_for s group trigger = unwrap_or (category_in (Some group) trigger s.rules) (is_immediate s trigger)
 
 -- the limits of a rating group's containers: of its rules, else of the session's, else of the setup
-abbrev pub limits_of : SmfSetup → Session → ℕ → Limits
-limits_of setup s group = record {
-  volume = unwrap_or (volume_in (Some group) s.rules) (unwrap_or (volume_in None s.rules) setup.volume_limit);
-  seconds = unwrap_or (seconds_in (Some group) s.rules) (unwrap_or (seconds_in None s.rules) setup.time_limit);
+abbrev pub limits_in : SmfSetup → List Rule → ℕ → Limits
+limits_in setup rules group = record {
+  volume = unwrap_or (volume_in (Some group) rules) (unwrap_or (volume_in None rules) setup.volume_limit);
+  seconds = unwrap_or (seconds_in (Some group) rules) (unwrap_or (seconds_in None rules) setup.time_limit);
 }
+
+-- by the rules of a session
+abbrev pub limits_of : SmfSetup → Session → ℕ → Limits
+limits_of setup s group = limits_in setup s.rules group
 
 -- a number outside of 1 to the greatest number of waiting containers is brought to the nearer of them
 abbrev pub within : ℕ → ℕ → ℕ

@@ -8,6 +8,7 @@ ghost use Rattle.smf_model.specs.declared.session.Peer.{Peer};
 ghost use Rattle.smf_model.specs.declared.event.SmfEvent.{SmfEvent};
 ghost use Rattle.smf_model.specs.declared.event.SmfEvent.TheVariants.{Attempt, NotSent, NoReply, Restart};
 ghost use Rattle.smf_model.specs.Machine.{machine_after, session_of, answer_of};
+ghost use Rattle.smf_model.specs.Counts.{entries_in};
 ghost use Rattle.smf_model.specs.Forward.{IsLaterSession};
 ghost use Rattle.sessions.specs.Trace.{IsTrace, flight};
 ghost use Rattle.smf_model.specs.Trace.{trace, moves_if, AgreesWith};
@@ -16,6 +17,9 @@ ghost use Rattle.smf_model.specs.Flights.{IsStep, Begins, Flies, IsGivenUp};
 ghost use Rattle.smf_model.specs.Places.{StandsAsMoved};
 ghost use Rattle.smf_model.specs.Exact.{ArePlacedExactly};
 ghost use Rattle.smf_model.specs.Among.{StandAmong};
+ghost use Rattle.smf_model.specs.History.{history};
+ghost use Rattle.smf_model.specs.LatestRules.{rules_in, RulesAreLatest};
+ghost use Rattle.smf_model.specs.Once.{EachStandsOnce, IsGivenUpFor};
 ghost use Rattle.smf_model.specs.Contents.{AreContents};
 ghost use Rattle.smf_model.specs.RequestNames.{AreNamed};
 ghost use Rattle.smf_model.specs.Causes.{AreCaused, AreFinal};
@@ -24,18 +28,27 @@ ghost use Rattle.smf_model.specs.Apart.{RequestsAreApart, SessionsAreApart};
 ghost use Rattle.smf_model.specs.Ended.{HoldsNothing};
 ghost use Rattle.smf_model.specs.Prefixes.{AreStanding};
 ghost use Rattle.smf_model.specs.Limits.{WaitsAtMost};
+ghost use Rattle.smf_model.specs.declared.session.Session.{Session};
+ghost use Rattle.smf_model.specs.Machine.{finished};
+ghost use Rattle.smf_model.specs.Resting.{IsAtRest, RestsUntilEnd};
 ghost use Rattle.smf_model.specs.Left.{NothingIsLeft, StaysClosed, AreOfSubscriber};
 ghost use Rattle.smf_model.specs.Reports.{reports, StandsByReports};
 ghost use Rattle.smf_model.specs.Came.{steps};
 ghost use Rattle.smf_model.specs.Quotas.{StandsBySteps, NoneIsDue};
 
 use meter::reports_keep_cuts;
-use quotas::{by_whole_list, fires_once};
+use quotas::{by_whole_list, fires_once, rests_until_deadline};
 
 /// A law of events; it does nothing. After any events each session is as its moves leave it: its requests are numbered 1, 2, 3, each
 /// after the first was frozen after a success of the one before, and the unanswered one is the newest (TS 32.290, 5.3.2).
 pub fn requests_in_order()
     ensures { (setup : SmfSetup) (events : List SmfEvent) (number : ℕ) → AgreesWith (trace setup events number) (session_of number (machine_after setup events).sessions) }
+{}
+
+/// A law of events; it does nothing. After any events the machine has counted the entries of its list: its setup, and each event that was a
+/// step (this product's own).
+pub fn entries_are_counted()
+    ensures { (setup : SmfSetup) (events : List SmfEvent) → (machine_after setup events).count ≡ entries_in setup events }
 {}
 
 /// A law of events; it does nothing. As events go on a session stays, and each of its containers stays where it is or goes on: open,
@@ -58,6 +71,15 @@ pub fn moves_may_follow()
 pub fn places_by_moves()
     ensures places { (setup : SmfSetup) (events : List SmfEvent) (number : ℕ) → StandsAsMoved (trace setup events number) (session_of number (machine_after setup events).sessions) }
     ensures exact { (setup : SmfSetup) (events : List SmfEvent) (number : ℕ) → ArePlacedExactly (trace setup events number) (session_of number (machine_after setup events).sessions) }
+{}
+
+/// A law of events; it does nothing. After any events each container of a session stands in exactly one place: open, waiting, in the unanswered
+/// request, in one with a final success, or given up. It is given up in exactly these cases: as too much, where a move says so; with NOT_SENT
+/// where its session was given up unsent, and with REFUSED where a request of it was refused, in both if it was left till then. It is given up
+/// once: the cause stands whatever comes later (TS 32.290, 5.3.2; what is given up is this product's own).
+pub fn containers_stand_once()
+    ensures places { (setup : SmfSetup) (events : List SmfEvent) (number : ℕ) → EachStandsOnce (trace setup events number) (session_of number (machine_after setup events).sessions) }
+    ensures causes { (setup : SmfSetup) (events : List SmfEvent) (number lsn : ℕ) → IsGivenUpFor (trace setup events number) lsn }
 {}
 
 /// A law of events; it does nothing. After any events each container that the moves of a session close is among its containers, and no number
@@ -115,6 +137,16 @@ pub fn nothing_is_left()
     ensures { (setup : SmfSetup) (events : List SmfEvent) (number : ℕ) → NothingIsLeft setup (session_of number (machine_after setup events).sessions) }
 {}
 
+/// A law of events; it does nothing. An event leaves each session that it touches at rest: no request is due to be frozen and no more wait
+/// than may. A tick leaves a session at rest as it is until the moment of one of its rating groups comes: a deadline, or an unsafe hour of its
+/// open container (TS 32.255, 5.2.1).
+pub fn sessions_rest()
+    ensures after { (setup : SmfSetup) (now : ℕ) (s : Session) → IsAtRest setup (finished setup now s) }
+    ensures until { (setup : SmfSetup) (s : Session) → IsAtRest setup s → RestsUntilEnd setup s }
+{
+    rests_until_deadline();
+}
+
 /// A law of events; it does nothing. As events go on a session that is ending or has ended does not come to life again, and the gate of each of its
 /// rating groups is closed (TS 32.290, quota management).
 pub fn gates_stay_closed()
@@ -171,6 +203,13 @@ pub fn requests_are_named()
 pub fn replies_are_caused()
     ensures { (setup : SmfSetup) (event : SmfEvent) (events : List SmfEvent) (number : ℕ)
         → AreCaused event number (trace setup events number) (moves_if (machine_after setup events) number event (answer_of (machine_after setup events) event)) }
+{}
+
+/// A law of events; it does nothing. After any events the category of each type, for the session and for each of its rating groups, is that of
+/// the latest rule that an answer to it gave; and each limit is the latest that such a rule gave. Of several rules of one type in one list the
+/// first counts, and rules for a group that the session does not have are passed over (TS 32.291, 6.1.6.2.1.7).
+pub fn rules_are_latest()
+    ensures { (setup : SmfSetup) (events : List SmfEvent) (number : ℕ) → RulesAreLatest (λ group. history (rules_in group) setup events number) (session_of number (machine_after setup events).sessions) }
 {}
 
 /// A law of events; it does nothing. After any events each reply that is an answer of a session was final for its unanswered request: the

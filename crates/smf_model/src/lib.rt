@@ -20,10 +20,11 @@ mod setup;
 pub use event::SmfEvent;
 pub use laws::{
     answers_are_final, attempts_begin, attempts_end, closes_are_its_own, containers_are_cuts,
-    ended_sessions_hold_nothing, few_wait, gates_stay_closed, given_up_unsent, moves_may_follow,
-    nothing_is_left, oldest_are_given_up, places_by_moves, places_go_on, quotas_by_steps,
-    replies_are_caused, reports_are_in_order, requests_are_apart, requests_are_named,
-    requests_are_of_subscriber, requests_hold, requests_in_order, requests_stand, sending_by_moves,
+    containers_stand_once, ended_sessions_hold_nothing, entries_are_counted, few_wait,
+    gates_stay_closed, given_up_unsent, moves_may_follow, nothing_is_left, oldest_are_given_up,
+    places_by_moves, places_go_on, quotas_by_steps, replies_are_caused, reports_are_in_order,
+    requests_are_apart, requests_are_named, requests_are_of_subscriber, requests_hold,
+    requests_in_order, requests_stand, rules_are_latest, sending_by_moves, sessions_rest,
     settles_once,
 };
 pub use refusal::{Seen, SmfRefusal};

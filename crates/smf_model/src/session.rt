@@ -121,10 +121,12 @@ pub struct Session {
     pub request: Option<Request>,
 }
 
-/// The machine as it is now: its setup, the greatest moment that an event carried, and its sessions in the order of their Attach.
+/// The machine as it is now: its setup, the greatest moment that an event carried, how many entries its list has, which are its setup and each
+/// event that was a step, and its sessions in the order of their Attach.
 #[derive(Debug, Drop)]
 pub struct Machine {
     pub setup: SmfSetup,
     pub moment: Moment,
+    pub count: u32,
     pub sessions: List<Session>,
 }

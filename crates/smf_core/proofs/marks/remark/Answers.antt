@@ -8,4 +8,4 @@ returns-then-at-sessions-clause-marks c = sym (set_past c.args.agenda.now.marks 
 pub returns-clause-marks : goal.returns-clause-marks
 returns-clause-marks c =
     c.set.ensures.value
-    ∙ ap (set c.args.agenda.now.marks c.args.at) (c.mark.ensures ∙ mark_there c.args.now c.args.sessions.now c.args.at c.index-sessions-at.result (omega (arith, c.if-at-sessions.false)) (sym c.index-sessions-at.is))
+    ∙ ap (set c.args.agenda.now.marks c.args.at) (c.mark.ensures ∙ mark_there c.args.setup.now c.args.now c.args.sessions.now c.args.at c.index-sessions-at.result (omega (arith, c.if-at-sessions.false)) (sym c.index-sessions-at.is))

@@ -5,7 +5,7 @@ use Rattle.smf_core.proofs.marks.wake.Given as goal
 
 abbrev pub invariant-loop-at : goal.invariant-loop-at
 invariant-loop-at l = record {
-  marks : remarked (marks_of l.now (sessions_of l.sessions)) (drop l.at-index l.places) l.agenda.marks ≡ remarked (marks_of l.now (sessions_of l.sessions)) l.places l.fn.agenda.marks;
+  marks : remarked (marks_of l.setup l.now (sessions_of l.sessions)) (drop l.at-index l.places) l.agenda.marks ≡ remarked (marks_of l.setup l.now (sessions_of l.sessions)) l.places l.fn.agenda.marks;
   long : length l.agenda.marks ≡ length l.sessions;
   room : l.agenda.room ≡ l.fn.agenda.room;
 }

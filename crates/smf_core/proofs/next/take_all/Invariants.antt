@@ -8,7 +8,7 @@ abbrev pub invariant-loop-turn : goal.invariant-loop-turn
 invariant-loop-turn l = record {
   all : turned l.turns.items (sessions_of l.sessions) ≡ turned l.fn.turns (sessions_of l.fn.sessions);
   ready : AreReady l.turns.items l.sessions;
-  marks : l.agenda.marks ≡ marks_of l.now (sessions_of l.sessions);
+  marks : l.agenda.marks ≡ marks_of l.setup l.now (sessions_of l.sessions);
   room : l.agenda.room ≡ l.fn.agenda.room;
 }
 

@@ -30,5 +30,5 @@ pub returns-clause-marks : goal.returns-clause-marks
 returns-clause-marks c =
     c.set.ensures.value
     ∙ ap (λ ms. set ms c.args.at c.mark.result) c.requires.marks
-    ∙ ap (set (marks_of c.args.now (sessions_of c.args.sessions.now)) c.args.at) c.mark.ensures
-    ∙ marks_set c.args.now c.args.sessions.now c.args.at c.take.new.self
+    ∙ ap (set (marks_of c.args.setup.now c.args.now (sessions_of c.args.sessions.now)) c.args.at) c.mark.ensures
+    ∙ marks_set c.args.setup.now c.args.now c.args.sessions.now c.args.at c.take.new.self

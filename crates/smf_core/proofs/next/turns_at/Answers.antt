@@ -2,7 +2,7 @@ use Rattle.std.proofs.Common.{◌+◌, drop, get_or, subst, arith}
 use Rattle.std.proofs.lemmas.List.{drop_more}
 use Rattle.smf_model.specs.Machine.{next_session}
 use Rattle.smf_core.specs.Caches.{sessions_of}
-use Rattle.smf_core.proofs.Flying.{IsTurned, turned_past, turned_more}
+use Rattle.smf_core.proofs.Several.{IsTurned, turned_past, turned_more}
 use Rattle.smf_core.proofs.next.turns_at.Goals as goal
 
 pub loop-at-preserved-then-at-sessions : goal.loop-at-preserved-then-at-sessions

@@ -1,7 +1,7 @@
 use Rattle.std.proofs.Common.{drop}
 use Rattle.smf_model.specs.Machine.{next_session}
 use Rattle.smf_core.specs.Caches.{sessions_of}
-use Rattle.smf_core.proofs.Flying.{IsTurned}
+use Rattle.smf_core.proofs.Several.{IsTurned}
 use Rattle.smf_core.proofs.next.turns_at.Given as goal
 
 abbrev pub invariant-loop-at : goal.invariant-loop-at

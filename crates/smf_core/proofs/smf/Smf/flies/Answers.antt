@@ -10,4 +10,4 @@ use Rattle.smf_core.proofs.smf.Smf.flies.Goals as goal
 pub returns : goal.returns
 returns c =
     let s = c.self.inside in
-    ap (λ (m : Mark). m.flies) (c.all.ensures ∙ ap all_of c.self.invariant.marks) ∙ flies_all s.moment (sessions_of s.sessions.items) ∙ ap (λ (x : Shown). any_flies x.machine.sessions) c.self.view_is
+    ap (λ (m : Mark). m.flies) (c.all.ensures ∙ ap all_of c.self.invariant.marks) ∙ flies_all s.setup s.moment (sessions_of s.sessions.items) ∙ ap (λ (x : Shown). any_flies x.machine.sessions) c.self.view_is

@@ -10,4 +10,4 @@ use Rattle.smf_core.proofs.smf.Smf.next_send.Goals as goal
 pub returns : goal.returns
 returns c =
     let s = c.self.inside in
-    ap (λ (m : Mark). m.send) (c.all.ensures ∙ ap all_of c.self.invariant.marks) ∙ send_all s.moment (sessions_of s.sessions.items) ∙ ap (λ (x : Shown). send_of x.machine.moment x.machine.sessions) c.self.view_is
+    ap (λ (m : Mark). m.send) (c.all.ensures ∙ ap all_of c.self.invariant.marks) ∙ send_all s.setup s.moment (sessions_of s.sessions.items) ∙ ap (λ (x : Shown). send_of x.machine.moment x.machine.sessions) c.self.view_is

@@ -8,4 +8,4 @@ use Rattle.smf_core.proofs.smf.Smf.plan_known.Goals as goal
 pub returns-clause-woken : goal.returns-clause-woken
 returns-clause-woken c =
     let s = c.self.inside in
-    c.new.ensures ∙ sym (none_woken s.moment 0 (sessions_of s.sessions.items)) ∙ ap (λ (x : Shown). woken_by s.moment x.machine) c.self.view_is
+    c.new.ensures ∙ sym (none_woken s.setup s.moment 0 (sessions_of s.sessions.items)) ∙ ap (λ (x : Shown). woken_by s.moment x.machine) c.self.view_is

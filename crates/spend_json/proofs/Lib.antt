@@ -1,0 +1,7 @@
+mod Lists
+mod ContextBack
+mod InRange
+mod Appended
+mod Members
+mod StatusWriting
+mod StatusBack
