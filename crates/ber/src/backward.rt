@@ -137,6 +137,7 @@ impl BackwardWriter {
     }
 
     /// Writes a primitive element in front of what is written (X.690 8.1.1, 10.1); nothing changes where memory is wanting.
+    #[inline(always)]
     pub fn primitive(&mut self, tag: &Tag, contents: &[u8]) -> Result<(), OutOfMemory>
         requires { tag.now.constructed ≡ false }
         ensures ok { OnOk result (self.new ≡ written (elements_of.primitive tag.now.class tag.now.number contents.now) ++ self.old) }

@@ -36,18 +36,21 @@ pub enum Place {
     Unknown,
 }
 
+#[inline(always)]
 pub fn is_field(number: u32) -> bool
     ensures { result ≡ is_field number }
 {
     number <= 3 || 5 <= number && number <= 9 || number == 11 || number == 13
 }
 
+#[inline(always)]
 fn is_group(number: u32) -> bool
     ensures { result ≡ is_group number }
 {
     number == 5 || number == 13
 }
 
+#[inline(always)]
 fn field_place(number: u32) -> Place
     ensures { result ≡ field_place number }
 {
@@ -68,6 +71,7 @@ fn field_place(number: u32) -> Place
     }
 }
 
+#[inline(always)]
 fn used_place(number: u32) -> Place
     ensures { result ≡ used_place number }
 {
@@ -82,12 +86,14 @@ fn used_place(number: u32) -> Place
     }
 }
 
+#[inline(always)]
 fn forms_differ(constructed: bool, due: bool) -> bool
     ensures { result ≡ forms_differ constructed due }
 {
     constructed != due
 }
 
+#[inline(always)]
 fn in_record(seen: [bool; 14], tag: &Tag) -> Step<Place>
     ensures { result ≡ in_record seen tag.now }
 {
@@ -112,6 +118,7 @@ fn in_record(seen: [bool; 14], tag: &Tag) -> Step<Place>
     }
 }
 
+#[inline(always)]
 fn in_usage(group: bool, used: bool, tag: &Tag) -> Step<Place>
     ensures { result ≡ in_usage group used tag.now }
 {
@@ -145,6 +152,7 @@ fn in_usage(group: bool, used: bool, tag: &Tag) -> Step<Place>
     }
 }
 
+#[inline(always)]
 fn in_used(seen: [bool; 8], next: u32, tag: &Tag) -> Step<Place>
     ensures { result ≡ in_used seen next tag.now }
 {
@@ -169,6 +177,7 @@ fn in_used(seen: [bool; 8], next: u32, tag: &Tag) -> Step<Place>
     }
 }
 
+#[inline(always)]
 fn in_session(seen: bool, tag: &Tag) -> Step<Place>
     ensures { result ≡ in_session seen tag.now }
 {
@@ -190,6 +199,7 @@ fn in_session(seen: bool, tag: &Tag) -> Step<Place>
     }
 }
 
+#[inline(always)]
 fn in_list(number: u32, form: bool, around: Place, inner: Place, tag: &Tag) -> Step<Place>
     ensures { result ≡ in_list number form around inner tag.now }
 {
@@ -203,6 +213,7 @@ fn in_list(number: u32, form: bool, around: Place, inner: Place, tag: &Tag) -> S
     }
 }
 
+#[inline(always)]
 fn has_required(seen: [bool; 14]) -> bool
     ensures { result ≡ has_required seen }
 {
@@ -218,6 +229,7 @@ fn has_required(seen: [bool; 14]) -> bool
         && seen[13]
 }
 
+#[inline(always)]
 fn has_all_used(seen: [bool; 8]) -> bool
     ensures { result ≡ has_all_used seen }
 {
@@ -229,6 +241,7 @@ impl Grammar for Place {
 
     ghost rules = { records };
 
+    #[inline(always)]
     fn enter(&self, tag: &Tag) -> Step<Place> {
         match *self {
             Place::Start => {
@@ -269,6 +282,7 @@ impl Grammar for Place {
         }
     }
 
+    #[inline(always)]
     fn takes(&self, contents: &[u8]) -> bool {
         match *self {
             Place::Kind => integer(200, contents) == Some(200),
@@ -279,6 +293,7 @@ impl Grammar for Place {
         }
     }
 
+    #[inline(always)]
     fn is_whole(&self) -> bool {
         match *self {
             Place::Record(seen) => has_required(seen),

@@ -374,7 +374,8 @@ fn all(alloc: Global, bytes: &[u8]) -> Result<(Record, usize, u32), BerRefusal>
     ensures found { IfOk result (λ x. (x.1 ≤ length bytes.now) × SpellsRecord (take x.1 bytes.now) (x.0, x.2)) }
     ensures only { (r : RecordSeen) (n unknown : ℕ) → n ≤ length bytes.now → SpellsRecord (take n bytes.now) (r, unknown) → Gives {Y = RecordSeen × ℕ × ℕ} (λ x. x) result (Ok (r, n, unknown)) }
 {
-    let mut tape = Tape::new(alloc);
+    // Most records have at most 64 elements.
+    let mut tape = Tape::with_places(alloc, 64)?;
     let (tlv, count) = ber::read(&mut tape, Place::Start, bytes)?;
     let (record, unknown) = made(alloc, &tlv)?;
     Ok((record, count, unknown))

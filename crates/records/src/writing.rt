@@ -41,6 +41,7 @@ fn octet_count(n: u64) -> usize
 }
 
 // A field of octets.
+#[inline(always)]
 fn field(out: &mut BackwardWriter, number: u32, contents: &[u8]) -> Result<(), OutOfMemory>
     ensures { OnOk result (out.new ≡ written (elements_of.primitive 2 number contents.now) ++ out.old) }
 {
@@ -69,6 +70,9 @@ fn close(out: &mut BackwardWriter, class: u8, number: u32, behind: usize) -> Res
 fn number(out: &mut BackwardWriter, tag: u32, n: u64) -> Result<(), OutOfMemory>
     ensures { OnOk result (out.new ≡ written (number_field tag n) ++ out.old) }
 {
+    if n < 1 << 7 {
+        return field(out, tag, &[n as u8]);
+    }
     let octets = n.to_be_bytes();
     if n < 1 << 63 {
         let (_, last) = octets.split_at(8 - octet_count(n));
