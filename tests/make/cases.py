@@ -111,6 +111,7 @@ def answer_with_many_sessions():
     lines += lines[begun:]
     for i in range(4, 301, 2):
         give(i, 3, start + 900, [], release=True)
+    lines += [f"close,{start + 900}", f"close,{start + 901}"]
     lines += [f"expire,{start + 1000}", f"expire,{start + 3960}", f"expire,{start + 3960}"]
     answer("answer-many-sessions", groups(300), lines)
 
@@ -166,7 +167,7 @@ def drawn_entries(draw, moment):
         if draw.randrange(3):
             entry["requestedUnit"] = draw.choice([{}, {}, dict(totalVolume=draw.randrange(10**6)), dict(time=draw.randrange(500))])
         if draw.randrange(3):
-            triggers = draw.choices(["QUOTA_THRESHOLD", "QUOTA_EXHAUSTED", "FINAL", "QHT", "TARIFF_TIME_CHANGE"], k=draw.randrange(1, 3))
+            triggers = draw.choices(["QUOTA_THRESHOLD", "QUOTA_EXHAUSTED", "FINAL", "QHT", "TARIFF_TIME_CHANGE", "QOS_CHANGE"], k=draw.randrange(1, 3))
             entry["usedUnitContainer"] = [
                 container(n, moment - draw.randrange(600), draw.randrange(40000), draw.randrange(50000), draw.randrange(300), trigger)
                 for n, trigger in enumerate(triggers)]
@@ -175,7 +176,9 @@ def drawn_entries(draw, moment):
 
 
 def drawn_row(draw, moment):
-    kind = draw.randrange(3)
+    kind = draw.randrange(4)
+    if kind == 3:
+        return f"close,{moment - draw.randrange(900)}"
     if kind == 0:
         return f"topup,t{draw.randrange(99)},a{draw.randrange(1, 4)},{draw.choice([3000000, 5 * 10**7])}"
     if kind == 1:
@@ -199,7 +202,10 @@ def drawn_message(draw, function, moment):
 
 def answer_drawn(seed):
     """Sessions of few subscribers on two accounts, drawn: requests in and out of order, repeated, overrunning."""
-    draw, setup, moment = random.Random(seed), RATES + [LIMITS], DAY + 25000
+    draw, moment = random.Random(seed), DAY + 25000
+    setup = RATES + [["", "limits,90000,0,0,0,60,chf1,FAILOVER_SUPPORTED", "limits,0,900,0,0,60,chf1,FAILOVER_SUPPORTED",
+                      "limits,0,0,2,0,60,chf1,FAILOVER_SUPPORTED", "limits,0,0,0,1,60,chf1,FAILOVER_SUPPORTED",
+                      "limits,200000,3000,3,5,60,chf1,FAILOVER_SUPPORTED"][seed % 6] or LIMITS]
     lines = ["subscriber,imsi-1,a1,", "subscriber,imsi-2,a1,50", "subscriber,imsi-3,a2,", f"topup,t0,a1,{10**8}"]
     function, sent = ChargingFunction(setup), []
     for line in lines:

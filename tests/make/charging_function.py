@@ -3,6 +3,9 @@ that `charging answer` and `charging operator` print, and knows nothing of the p
 from messages import BASE, Fault, cause_of, compact, read_request
 from times import LAST, write_time
 
+CHANGES = set(
+    "TARIFF_TIME_CHANGE QOS_CHANGE RAT_CHANGE PLMN_CHANGE USER_LOCATION_CHANGE UE_TIMEZONE_CHANGE SESSION_AMBR_CHANGE "
+    "SERVING_NODE_CHANGE".split())
 PROBLEMS = dict(E28=(403, "SESSION_EXISTS"), E29=(403, "SESSION_CLOSED"), E30=(400, "SEQUENCE_PASSED"), E31=(404, "UNKNOWN_REFERENCE"))
 
 
@@ -56,7 +59,7 @@ class ChargingFunction:
             elif word == "price":
                 self.tariffs[int(fields[0])].periods.append(tuple(map(int, fields[1:])))
             else:
-                self.grace, self.failover = int(fields[4]), fields[6]
+                self.limits, self.grace, self.failover = tuple(map(int, fields[:4])), int(fields[4]), fields[6]
 
     def free(self, name):
         account = self.accounts[name]
@@ -86,12 +89,37 @@ class ChargingFunction:
             del self.left[key]
         return "ok" if ended else "known"
 
+    def close(self, moment):
+        """Closes each record that has a container; the next one opens at that moment."""
+        closed = [s for s in self.sessions if s["record"] and s["record"]["containers"]]
+        for session in closed:
+            session["record"] = self.opened(moment)
+        return "ok" if closed else "known"
+
+    def opened(self, moment):
+        return dict(opening=moment, octets=0, changes=0, containers=0)
+
+    def file(self, session, request):
+        """The containers of a request come to the open record of its session, which a limit or a Release closes."""
+        record = session["record"] = session.get("record") or self.opened(request["stamp"])
+        for used in (used for entry in request["usage"] for used in entry["used"]):
+            record["octets"] += used["up"] + used["down"]
+            record["changes"] += not CHANGES.isdisjoint(used["triggers"])
+            record["containers"] += 1
+        sums = record["octets"], request["stamp"] - record["opening"], record["changes"], record["containers"]
+        if request["operation"] == "release":
+            session["record"] = None
+        elif record["containers"] and any(limit and limit <= amount for limit, amount in zip(self.limits, sums)):
+            session["record"] = self.opened(request["stamp"])
+
     def row(self, line):
         word, *fields = line.split(",")
         if word == "subscriber":
             return self.subscriber(*fields)
         if word == "topup":
             return self.topup(fields[0], fields[1], int(fields[2]))
+        if word == "close":
+            return self.close(int(fields[0]))
         return self.expire(int(fields[0]))
 
     def account_lines(self):
@@ -156,6 +184,7 @@ class ChargingFunction:
             return problem(*PROBLEMS["E29"])
         session["last"] = request["number"]
         self.replies[key] = content, self.use(session, request)
+        self.file(session, request)
         return self.replies[key][1]
 
     def session(self, consumer, reference):

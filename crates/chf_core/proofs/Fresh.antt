@@ -4,8 +4,9 @@ use Rattle.units.specs.declared.request.Operation.{Operation}
 use Rattle.units.specs.declared.request.Operation.TheVariants.{Create, Update, Release}
 use Rattle.units.specs.declared.request.Request.{Request}
 use Rattle.accounts.specs.Endings.{count_ending, Until}
+use Rattle.records.specs.Book.{closable}
 use Rattle.chf_core.specs.declared.command.Command.{Command}
-use Rattle.chf_core.specs.declared.command.Command.TheVariants.{Setup, Charge, Subscriber, TopUp, Expire}
+use Rattle.chf_core.specs.declared.command.Command.TheVariants.{Setup, Charge, Subscriber, TopUp, Expire, CloseRecords}
 use Rattle.chf_core.specs.declared.command.Outcome.{Outcome}
 use Rattle.chf_core.specs.declared.command.Outcome.TheVariants.{Charged, Done}
 use Rattle.chf_core.specs.declared.decision.Verdict.TheVariants.{Fresh, Refused, Known}
@@ -17,7 +18,8 @@ use Rattle.chf_core.specs.Operator.{name_eq, subscription_of, account_number, to
 use Rattle.chf_core.specs.Sessions.{named_by}
 use Rattle.chf_core.specs.Keys.{key_of, place_of, command_at, is_repeat}
 use Rattle.chf_core.specs.Money.{money, first_reply}
-use Rattle.chf_core.specs.Decisions.{decision, at_key, at_place, at_new, at_new_create, at_new_later, at_kept, last_of, decide_subscriber, decide_again, decide_topup, decide_expire, same_row}
+use Rattle.chf_core.specs.Filed.{book}
+use Rattle.chf_core.specs.Decisions.{decision, at_key, at_place, at_new, at_new_create, at_new_later, at_kept, last_of, decide_subscriber, decide_again, decide_topup, decide_counted, same_row}
 use Rattle.chf_core.specs.Outcomes.{outcome_of}
 
 module _ (a : List Command) (q : Request) (o : Outcome) where
@@ -65,12 +67,13 @@ module _ (o : Outcome) where
   of_topup name x None s e = absurd (cc)
   of_topup name x (Some n) s e = of_again name x s e
 
-  of_expire : (n : ℕ) → decide_expire n ≡ Fresh o → o ≡ Done
-  of_expire n e = elim (n == 0) as (λ b. cond b Known (Fresh Done) ≡ Fresh o → o ≡ Done) [ true ↦ λ w. absurd (cc) | false ↦ λ w. cc ] e
+  of_counted : (n : ℕ) → decide_counted n ≡ Fresh o → o ≡ Done
+  of_counted n e = elim (n == 0) as (λ b. cond b Known (Fresh Done) ≡ Fresh o → o ≡ Done) [ true ↦ λ w. absurd (cc) | false ↦ λ w. cc ] e
 
 pub fresh_is : (a : List Command) (c : Command) (o : Outcome) → decision a c ≡ Fresh o → o ≡ outcome_of a c
 fresh_is a (Setup setup) o e = cc
 fresh_is a (Charge q) o e = fresh_request a q o e
 fresh_is a (Subscriber supi account barred) o e = of_row o (same_row account barred (subscription_of a supi)) e
 fresh_is a (TopUp id account amount) o e = of_topup o account amount (account_number a account) (topup_of a id) e
-fresh_is a (Expire moment) o e = of_expire o (count_ending (money a).reservations (Until moment)) e
+fresh_is a (Expire moment) o e = of_counted o (count_ending (money a).reservations (Until moment)) e
+fresh_is a (CloseRecords moment) o e = of_counted o (closable (book a).sessions) e

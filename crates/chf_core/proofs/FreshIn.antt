@@ -5,8 +5,9 @@ use Rattle.units.specs.declared.request.Operation.{Operation}
 use Rattle.units.specs.declared.request.Operation.TheVariants.{Create, Update, Release}
 use Rattle.units.specs.declared.request.Request.{Request}
 use Rattle.accounts.specs.Endings.{count_ending, Until}
+use Rattle.records.specs.Book.{closable}
 use Rattle.chf_core.specs.declared.command.Command.{Command}
-use Rattle.chf_core.specs.declared.command.Command.TheVariants.{Setup, Charge, Subscriber, TopUp, Expire}
+use Rattle.chf_core.specs.declared.command.Command.TheVariants.{Setup, Charge, Subscriber, TopUp, Expire, CloseRecords}
 use Rattle.chf_core.specs.declared.command.Outcome.TheVariants.{Done}
 use Rattle.chf_core.specs.declared.decision.Verdict.{Verdict}
 use Rattle.chf_core.specs.declared.decision.Verdict.TheVariants.{Fresh, Refused, Known}
@@ -14,7 +15,7 @@ use Rattle.chf_core.specs.declared.refusal.ChfRefusal.TheVariants.{SessionClosed
 use Rattle.chf_core.specs.declared.session.Session.{Session}
 use Rattle.chf_core.specs.declared.key.Key.{Key}
 use Rattle.chf_core.specs.declared.subscription.Sum.{Sum}
-use Rattle.chf_core.specs.Decisions.{is_fresh, last_of, at_kept, same_row, decide_subscriber, decide_again, decide_topup, decide_expire}
+use Rattle.chf_core.specs.Decisions.{is_fresh, last_of, at_kept, same_row, decide_subscriber, decide_again, decide_topup, decide_counted}
 use Rattle.chf_core.specs.State.{State, at_text, account_named, named_by, key_of, place_of, kept_at}
 use Rattle.chf_core.specs.Deciding.{outcome_of, is_repeat, fresh_charge, at_new_create, at_new_later, at_new, at_place, at_key, decision}
 
@@ -68,8 +69,8 @@ of_topup : (account : List ℕ) (amount : ℕ) (n : Option ℕ) (o : Option Sum)
 of_topup account amount None o e = absurd (false≢true e)
 of_topup account amount (Some n) o e = of_again account amount o e
 
-of_expire : (n : ℕ) → Tells (Fresh Done) (decide_expire n)
-of_expire n e = by _ e where
+of_counted : (n : ℕ) → Tells (Fresh Done) (decide_counted n)
+of_counted n e = by _ e where
   by : (b : Bool) → Tells (Fresh Done) (cond b Known (Fresh Done))
   by true w = absurd (false≢true w)
   by false w = refl
@@ -80,4 +81,5 @@ fresh_in s (Setup setup) e = refl
 fresh_in s (Charge q) e = of_key s q (key_of s q) e
 fresh_in s (Subscriber supi account barred) e = of_subscriber (same_row account barred (at_text s.subscribers supi)) e
 fresh_in s (TopUp id account amount) e = of_topup account amount (account_named s account) (at_text s.topups id) e
-fresh_in s (Expire moment) e = of_expire (count_ending s.money.reservations (Until moment)) e
+fresh_in s (Expire moment) e = of_counted (count_ending s.money.reservations (Until moment)) e
+fresh_in s (CloseRecords moment) e = of_counted (closable s.book.sessions) e

@@ -15,7 +15,7 @@ use Rattle.accounts.specs.Making.{made, onto}
 use Rattle.chf_core.specs.declared.target.Target.{Target}
 use Rattle.chf_core.specs.declared.target.GroupAsk.{GroupAsk}
 use Rattle.chf_core.specs.declared.command.Command.{Command}
-use Rattle.chf_core.specs.declared.command.Command.TheVariants.{Setup, Charge, Subscriber, TopUp, Expire}
+use Rattle.chf_core.specs.declared.command.Command.TheVariants.{Setup, Charge, Subscriber, TopUp, Expire, CloseRecords}
 use Rattle.chf_core.specs.Operator.{barred_in}
 use Rattle.chf_core.specs.Sessions as list
 use Rattle.chf_core.specs.Sessions.{by_reference}
@@ -142,6 +142,7 @@ money_is (TopUp id account amount ∷ a) =
     made_topping amount (account_named s account) s.money
     ∙ (λ i. topped (money_is a i) amount (number_is a account i))
 money_is (Expire moment ∷ a) = ap (moved (ExpiredMove moment)) (money_is a)
+money_is (CloseRecords moment ∷ a) = money_is a
 
 -- and they are those of all moves
 onto_made : (moves before : List Move) → money_of (onto moves before) ≡ made moves (money_of before)

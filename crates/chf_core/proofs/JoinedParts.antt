@@ -9,7 +9,7 @@ use Rattle.units.specs.declared.request.Operation.{Operation}
 use Rattle.units.specs.declared.request.Operation.TheVariants.{Create, Update, Release}
 use Rattle.units.specs.declared.request.Request.{Request}
 use Rattle.chf_core.specs.declared.command.Command.{Command}
-use Rattle.chf_core.specs.declared.command.Command.TheVariants.{Setup, Charge, Subscriber, TopUp}
+use Rattle.chf_core.specs.declared.command.Command.TheVariants.{Setup, Charge, Subscriber, TopUp, CloseRecords}
 use Rattle.chf_core.specs.declared.session.Session.{Session}
 use Rattle.chf_core.specs.declared.subscription.Subscription.{Subscription}
 use Rattle.chf_core.specs.declared.subscription.Sum.{Sum}
@@ -21,6 +21,8 @@ use Rattle.chf_core.specs.Sessions.{sessions_after, write_session, with_last, by
 use Rattle.chf_core.specs.Keys as keys
 use Rattle.chf_core.specs.Keys.{key_in}
 use Rattle.chf_core.specs.State.{Texts, at_text, with_text, account_named, account_for, name_of, reference_in, reference_of, session_for, named_by, key_by, key_of}
+use Rattle.chf_core.specs.Filings.{limits_in, filings_by, filed}
+use Rattle.chf_core.specs.Filed.{filings_in, book}
 use Rattle.chf_core.specs.After.{state_of}
 use Rattle.chf_core.proofs.Places.{reverse_push}
 
@@ -165,6 +167,17 @@ references_are (Charge q ∷ a) n =
     reference_after q.operation q (account_for s q.subscriber) s.sessions n
     ∙ (λ i. cond (opens q.operation q (account_is a q.subscriber i) n) (Some (length (sessions_are a i) + 1)) (references_are a n i))
 references_are (c ∷ a) n = references_are a n
+
+-- ---- the records
+
+pub book_is : (a : List Command) → (state_of a).book ≡ book a
+book_is [] = refl
+book_is (Charge q ∷ a) = λ i.
+    filed (limits_in (setup_is a i))
+    (filings_by q.operation (length (sessions_are a i)) q (opens_by q.operation (account_is a q.subscriber i))) (book_is a i)
+book_is (CloseRecords moment ∷ a) =
+    λ i. filed (limits_in (setup_is a i)) (filings_in a (CloseRecords moment)) (book_is a i)
+book_is (c ∷ a) = book_is a
 
 -- ---- the session that a request names
 

@@ -7,8 +7,9 @@ use Rattle.units.specs.declared.request.Operation.TheVariants.{Create, Update, R
 use Rattle.units.specs.declared.request.Request.{Request}
 use Rattle.sessions.specs.Content.{content}
 use Rattle.accounts.specs.Endings.{count_ending, Until}
+use Rattle.records.specs.Book.{closable}
 use Rattle.chf_core.specs.declared.command.Command.{Command}
-use Rattle.chf_core.specs.declared.command.Command.TheVariants.{Setup, Charge, Subscriber, TopUp, Expire}
+use Rattle.chf_core.specs.declared.command.Command.TheVariants.{Setup, Charge, Subscriber, TopUp, Expire, CloseRecords}
 use Rattle.chf_core.specs.declared.command.Outcome.TheVariants.{Charged}
 use Rattle.chf_core.specs.declared.decision.Verdict.TheVariants.{Fresh, Refused}
 use Rattle.chf_core.specs.declared.refusal.ChfRefusal.TheVariants.{SessionClosed, SequencePassed}
@@ -22,7 +23,7 @@ use Rattle.chf_core.specs.Keys as keys
 use Rattle.chf_core.specs.Keys.{key, key_eq, key_in, is_key}
 use Rattle.chf_core.specs.Money as money
 use Rattle.chf_core.specs.Decisions as decisions
-use Rattle.chf_core.specs.Decisions.{last_of, at_kept, decide_subscriber, decide_topup, decide_expire, same_row}
+use Rattle.chf_core.specs.Decisions.{last_of, at_kept, decide_subscriber, decide_topup, decide_counted, same_row}
 use Rattle.chf_core.specs.State.{State, session_at, key_by, key_of, kept_key, place_of, kept_at}
 use Rattle.chf_core.specs.Deciding as deciding
 use Rattle.chf_core.specs.Deciding.{first_reply, is_repeat, decision}
@@ -30,7 +31,7 @@ use Rattle.chf_core.specs.After.{entry_of, entered, state_of}
 use Rattle.chf_core.specs.Joined.{request_of, request_at, IsLeftBy}
 use Rattle.chf_core.proofs.Places.{eq_yes, eq_no}
 use Rattle.chf_core.proofs.Named.{place_within, same_number}
-use Rattle.chf_core.proofs.JoinedParts.{setup_is, count_is, names_are, number_is, subscribers_are, topups_are, sessions_are, key_is, references_are, named_is}
+use Rattle.chf_core.proofs.JoinedParts.{setup_is, count_is, names_are, number_is, subscribers_are, topups_are, sessions_are, key_is, references_are, book_is, named_is}
 use Rattle.chf_core.proofs.JoinedMoney.{money_is, moves_are, reply_is}
 
 -- ---- kept requests
@@ -220,7 +221,8 @@ decision_is a (Subscriber supi account barred) =
     λ i. decide_subscriber (same_row account barred (subscribers_are a supi i))
 decision_is a (TopUp id account amount) =
     λ i. decide_topup account amount (number_is a account i) (topups_are a id i)
-decision_is a (Expire moment) = λ i. decide_expire (count_ending (money_is a i).reservations (Until moment))
+decision_is a (Expire moment) = λ i. decide_counted (count_ending (money_is a i).reservations (Until moment))
+decision_is a (CloseRecords moment) = λ i. decide_counted (closable (book_is a i).sessions)
 
 pub joined : (a : List Command) → IsLeftBy a (state_of a)
 joined a = record {
@@ -233,6 +235,7 @@ joined a = record {
   references = references_are a;
   moves = moves_are a;
   money = money_is a;
+  book = book_is a;
   requests = requests_are a;
   places = places_are a;
 }

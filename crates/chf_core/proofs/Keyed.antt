@@ -10,7 +10,7 @@ use Rattle.chf_core.specs.declared.session.Session.{Session}
 use Rattle.chf_core.specs.declared.key.Name.{Name}
 use Rattle.chf_core.specs.declared.key.Key.{Key}
 use Rattle.chf_core.specs.declared.command.Command.{Command}
-use Rattle.chf_core.specs.declared.command.Command.TheVariants.{Setup, Charge, Subscriber, TopUp, Expire}
+use Rattle.chf_core.specs.declared.command.Command.TheVariants.{Setup, Charge, Subscriber, TopUp, Expire, CloseRecords}
 use Rattle.chf_core.specs.declared.command.Outcome.{Outcome}
 use Rattle.chf_core.specs.declared.decision.Verdict.TheVariants.{Fresh}
 use Rattle.chf_core.specs.Operator.{name_eq}
@@ -63,6 +63,7 @@ none_under (Charge q ∷ a) k e = by_key (key_of a q) refl (no_place (place_of a
 none_under (Subscriber u n b ∷ a) k e = none_under a k e
 none_under (TopUp i n x ∷ a) k e = none_under a k e
 none_under (Expire m ∷ a) k e = none_under a k e
+none_under (CloseRecords m ∷ a) k e = none_under a k e
 
 -- a fresh request's key has no place
 pub fresh_place : (a : List Command) (q : Request) (k : Key) (o : Outcome) → key_of a q ≡ Some k → decision a (Charge q) ≡ Fresh o → place_of a k ≡ None
@@ -109,3 +110,4 @@ kept_keyed (Charge q ∷ a) n h = by_key (key_of a q) refl (kept_keyed a n h.1)
 kept_keyed (Subscriber u m b ∷ a) n h = kept_keyed a n h.1
 kept_keyed (TopUp i m x ∷ a) n h = kept_keyed a n h.1
 kept_keyed (Expire m ∷ a) n h = kept_keyed a n h.1
+kept_keyed (CloseRecords m ∷ a) n h = kept_keyed a n h.1

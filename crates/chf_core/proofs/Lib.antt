@@ -35,6 +35,10 @@ pub mod Drafting
 mod OwnKeys
 mod Deciding
 mod SessionLines
+pub mod OpenRecords
+mod Requested
+mod FiledRecords
+mod HeldRecords
 mod Switches
 mod InRange
 mod TextTables

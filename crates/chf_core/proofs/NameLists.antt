@@ -1,16 +1,20 @@
 -- Names and their numbers: one more name, and what a table of texts keeps.
-use Rattle.std.proofs.Common.{◌≡◌, ◌<◌, ℕ, suc, Bool, true, false, cond, List, [], ◌∷◌, ◌++◌, length, map, reverse, slice_get, Option, Some, None, option_map, refl, sym, ap, ◌∙◌, string_bytes, arith}
+use Rattle.std.proofs.Common.{◌≡◌, ◌<◌, ℕ, suc, ◌+◌, ◌||◌, Bool, true, false, cond, List, [], ◌∷◌, ◌++◌, length, map, reverse, slice_get, Option, Some, None, option_map, refl, sym, ap, ◌∙◌, string_bytes, arith}
 use Rattle.std.specs.declared.alloc.Global.{Global}
 use Rattle.std.specs.Prelude.{String}
 use Rattle.std.specs.HashMap.{HashMap, get, get_by_text}
 use Rattle.std.specs.Map.{lookup}
-use Rattle.std.specs.Cmp.Lexicographic.{bytes_decides}
+use Rattle.std.specs.Cmp.Lexicographic.{bytes_decides, nat_list_eq_equiv}
+use Rattle.std.specs.List.{list_any, position, position_from}
+use Rattle.std.specs.Option.{option_or}
+use Rattle.std.proofs.lemmas.Iterator.Adapters.{position_from-zero}
 use Rattle.std.specs.String.{string_eq}
 use Rattle.std.proofs.lemmas.Map.Entries.{place_from_lookup}
 use Rattle.std.proofs.lemmas.Map.Text.{is_text, hash_map_text_same}
 use Rattle.std.proofs.lemmas.List.{reverse-append, reverse-reverse, length-reverse, map-append, length-map}
 use Rattle.std.proofs.lemmas.Option.{slice_get-map}
 use Rattle.chf_core.specs.Operator.{name_eq, number_in, with_name}
+use Rattle.chf_core.specs.NamesKept.{is_name}
 use Rattle.chf_core.proofs.Named.{same_name}
 
 pub seen_push : (ts : List (String Global)) (t : String Global) → reverse (map string_bytes (ts ++ t ∷ [])) ≡ string_bytes t ∷ reverse (map string_bytes ts)
@@ -18,6 +22,59 @@ seen_push ts t = ap reverse (map-append string_bytes ts (t ∷ [])) ∙ reverse-
 
 pub seen_length : (ts : List (String Global)) → length (reverse (map string_bytes ts)) ≡ length ts
 seen_length ts = length-reverse (map string_bytes ts) ∙ (simp length-map)
+
+-- the place of a text among those that came is the number of its name
+from_push : {X : Type 0} (t : X → Bool) (i : ℕ) (xs : List X) (y : X) → position_from t i (xs ++ y ∷ []) ≡ option_or (position_from t i xs) (cond (t y) (Some (i + length xs)) None)
+from_push t i [] y = ap (λ n. cond (t y) (Some n) None) (let e : i ≡ i + 0 = omega arith in e)
+from_push t i (x ∷ xs) y = by_test (t x) (from_push t (i + 1) xs y)
+  where
+    next : i + 1 + length xs ≡ i + suc (length xs)
+    next = omega arith
+
+    by_test : (b : Bool) → position_from t (i + 1) (xs ++ y ∷ []) ≡ option_or (position_from t (i + 1) xs) (cond (t y) (Some (i + 1 + length xs)) None)
+        → cond b (Some i) (position_from t (i + 1) (xs ++ y ∷ [])) ≡ option_or (cond b (Some i) (position_from t (i + 1) xs)) (cond (t y) (Some (i + suc (length xs))) None)
+    by_test true rest = refl
+    by_test false rest = rest ∙ ap (λ n. option_or (position_from t (i + 1) xs) (cond (t y) (Some n) None)) next
+
+place_push : (name : List ℕ) (ts : List (String Global)) (t : String Global) → position (is_name name) (ts ++ t ∷ []) ≡ option_or (position (is_name name) ts) (cond (is_name name t) (Some (length ts)) None)
+place_push name ts t =
+    position_from-zero (is_name name) (ts ++ t ∷ []) ∙ from_push (is_name name) 0 ts t
+    ∙ (λ i. option_or (sym (position_from-zero (is_name name) ts) i) (cond (is_name name t) (Some ((let e : 0 + length ts ≡ length ts = omega arith in e) i)) None))
+
+-- where a name has no number, no text is it
+none_from : {X : Type 0} (t : X → Bool) (i : ℕ) (xs : List X) → position_from t i xs ≡ None → list_any t xs ≡ false
+none_from t i [] e = refl
+none_from t i (x ∷ xs) e = by_test (t x) (none_from t (i + 1) xs) e
+  where
+    by_test : (b : Bool) → (position_from t (i + 1) xs ≡ None → list_any t xs ≡ false) → cond b (Some i) (position_from t (i + 1) xs) ≡ None → (b || list_any t xs) ≡ false
+    by_test true rest w = absurd (cc)
+    by_test false rest w = rest w
+
+pub none_is : (name : List ℕ) (ts : List (String Global)) → position (is_name name) ts ≡ None → list_any (is_name name) ts ≡ false
+none_is name ts e = none_from (is_name name) 0 ts (sym (position_from-zero (is_name name) ts) ∙ e)
+
+-- with one more, which was no name before
+pub numbered_push : (ts : List (String Global)) (t : String Global)
+    → ((name : List ℕ) → position (is_name name) ts ≡ number_in (reverse (map string_bytes ts)) name)
+    → number_in (reverse (map string_bytes ts)) (string_bytes t) ≡ None
+    → (name : List ℕ) → position (is_name name) (ts ++ t ∷ []) ≡ number_in (reverse (map string_bytes (ts ++ t ∷ []))) name
+numbered_push ts t at none name =
+    place_push name ts t ∙ (λ i. option_or (at name i) (cond (turn i) (Some (sym (seen_length ts) i)) None))
+    ∙ by_test (name_eq (string_bytes t) name) refl (number_in (reverse (map string_bytes ts)) name) refl
+    ∙ ap (λ (l : List (List ℕ)). number_in l name) (sym (seen_push ts t))
+  where
+    turn : is_name name t ≡ name_eq (string_bytes t) name
+    turn = nat_list_eq_equiv.symm name (string_bytes t)
+
+    known : List (List ℕ)
+    known = reverse (map string_bytes ts)
+
+    by_test : (b : Bool) → name_eq (string_bytes t) name ≡ b → (o : Option ℕ) → number_in known name ≡ o
+        → option_or o (cond b (Some (length known)) None) ≡ cond b (Some (length known)) o
+    by_test true e None w = refl
+    by_test true e (Some n) w = absurd (let z : Some n ≡ None = sym w ∙ ap (number_in known) (sym (same_name (string_bytes t) name e)) ∙ none in cc)
+    by_test false e None w = refl
+    by_test false e (Some n) w = refl
 
 pub names_at : (ts : List (String Global)) (i : ℕ) → option_map string_bytes (slice_get ts i) ≡ slice_get (reverse (reverse (map string_bytes ts))) i
 names_at ts i = sym (slice_get-map string_bytes ts i) ∙ ap (λ (l : List (List ℕ)). slice_get l i) (sym (reverse-reverse (map string_bytes ts)))

@@ -23,7 +23,7 @@ use Rattle.chf_core.specs.declared.session.Session.{Session}
 use Rattle.chf_core.specs.declared.target.Target.{Target}
 use Rattle.chf_core.specs.declared.target.GroupAsk.{GroupAsk}
 use Rattle.chf_core.specs.declared.command.Command.{Command}
-use Rattle.chf_core.specs.declared.command.Command.TheVariants.{Setup, Charge, Subscriber, TopUp, Expire}
+use Rattle.chf_core.specs.declared.command.Command.TheVariants.{Setup, Charge, Subscriber, TopUp, Expire, CloseRecords}
 use Rattle.chf_core.specs.Operator.{account_number}
 use Rattle.chf_core.specs.Sessions.{sessions, sessions_after, session_at, by_reference, account_for, opened, id_of, supi_of}
 use Rattle.chf_core.specs.Effect.{Rating, charged_used, charged, gives_back, released, released_one, granted, with_grant, with_grants, deadline_of, closed_by, settled, used_by, asks_of}
@@ -160,6 +160,7 @@ owned (TopUp i n x ∷ a) = by_number (account_number a n) (owned a)
     by_number None own = own
     by_number (Some j) own = own
 owned (Expire m ∷ a) = owned_without (sessions a) (money a).reservations (Until m) (owned a)
+owned (CloseRecords m ∷ a) = owned a
 
 -- what a request charges owns all that is set aside for its session
 pub past_end : (ss : List Session) → account_in ss (length ss + 1) ≡ None

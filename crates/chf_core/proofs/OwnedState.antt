@@ -15,7 +15,7 @@ use Rattle.accounts.specs.Making.{made}
 use Rattle.chf_core.specs.declared.session.Session.{Session}
 use Rattle.chf_core.specs.declared.target.Target.{Target}
 use Rattle.chf_core.specs.declared.command.Command.{Command}
-use Rattle.chf_core.specs.declared.command.Command.TheVariants.{Setup, Charge, Subscriber, TopUp, Expire}
+use Rattle.chf_core.specs.declared.command.Command.TheVariants.{Setup, Charge, Subscriber, TopUp, Expire, CloseRecords}
 use Rattle.chf_core.specs.Sessions.{sessions_after, opened, by_reference, id_of, supi_of}
 use Rattle.chf_core.specs.Admits.{OwnsAll}
 use Rattle.chf_core.specs.Money.{used, opened_target, named_target}
@@ -116,6 +116,7 @@ owned_after s (Charge q) own = to_owned (after s (Charge q)) (owned_charge s q (
 owned_after s (Subscriber supi account barred) own = to_owned (after s (Subscriber supi account barred)) (owned_subscriber s.sessions s.money (account_named s account) (from_owned s own))
 owned_after s (TopUp id account amount) own = to_owned (after s (TopUp id account amount)) (owned_topup s.sessions s.money amount (account_named s account) (from_owned s own))
 owned_after s (Expire moment) own = to_owned (after s (Expire moment)) (owned_expire s.sessions s.money moment (from_owned s own))
+owned_after s (CloseRecords moment) own = own
 
 -- what a request charges owns all that is set aside for its session
 pub request_owns : (s : State) (q : Request) → IsOwned s → IfSome (target_of s q) (λ t. OwnsAll t s.money)

@@ -1,4 +1,4 @@
--- The lines of a session are those of its accepted requests.
+-- The requests that charge a session are its accepted ones, and its lines are theirs.
 use Rattle.std.proofs.Common.{◌≡◌, ◌≢◌, ◌⊎◌, ◌==◌, ◌&&◌, ℕ, suc, ◌+◌, ◌-◌, Bool, true, false, cond, List, [], ◌∷◌, ◌++◌, map, length, slice_get, Option, Some, None, option_map, refl, sym, ap, ◌∙◌, subst, arith, inl, inr, ⊎_elim}
 use Rattle.std.proofs.lemmas.Bool.{cases_eq}
 use Rattle.std.proofs.lemmas.Option.{slice_get_past}
@@ -69,25 +69,42 @@ module _ (rows : List (List (List ℕ))) (t : Target) (r : ℕ) where
       filter-append (λ (l : Line). l.session == r) (map (line_of rows t u.group) u.used) (lines_of rows t usage)
       ∙ (λ i. of_used false e u.group u.used i ++ of_usage false e usage i)
 
--- ---- the invariant: the lines of each session, and none of one that is not there
+-- ---- the requests that charge a session
+
+-- whether a target is of it
+abbrev pub is_at : ℕ → Option Target → Bool
+is_at r None = false
+is_at r (Some t) = t.session == r
+
+-- their contents, the newest first
+abbrev pub requests_by : List Command → ℕ → List Request
+requests_by [] r = []
+requests_by (Charge q ∷ before) r =
+    cond (is_at r (target_of before q)) (content q ∷ requests_by before r) (requests_by before r)
+requests_by (c ∷ before) r = requests_by before r
+
+-- ---- the invariant: the requests and lines of each session, and none of one that is not there
 
 pub record IsLined (a : List Command) (n : Name) (r : ℕ) : Type 0 where
   pub lasts : Lasting
   pub there : owner (sessions a) r ≡ Some lasts
   pub lines : lines_by r (ledger a) ≡ lines_of_all (rates_in (setup_of a)) lasts.account r (accepted (kept_of a n))
+  pub requests : requests_by a r ≡ accepted (kept_of a n)
 
 pub record AreLined (a : List Command) : Type 0 where
   pub each : (n : Name) (r : ℕ) → reference_of a n ≡ Some r → IsLined a n r
   pub beyond : (r : ℕ) → owner (sessions a) r ≡ None → lines_by r (ledger a) ≡ []
+  pub unasked : (r : ℕ) → owner (sessions a) r ≡ None → requests_by a r ≡ []
 
 -- a later command that charges nothing of it
 still_lined : (c : Command) (a : List Command) (n : Name) (r : ℕ) → setup_of (c ∷ a) ≡ setup_of a
     → lines_by r (ledger (c ∷ a)) ≡ lines_by r (ledger a) → accepted (kept_of (c ∷ a) n) ≡ accepted (kept_of a n)
-    → IsLined a n r → IsLined (c ∷ a) n r
-still_lined c a n r p e t h = record {
+    → requests_by (c ∷ a) r ≡ requests_by a r → IsLined a n r → IsLined (c ∷ a) n r
+still_lined c a n r p e t s h = record {
   lasts = h.lasts;
   there = keeps_one c a r h.lasts h.there;
   lines = e ∙ h.lines ∙ (λ i. lines_of_all (rates_in (sym p i)) h.lasts.account r (sym t i));
+  requests = s ∙ h.requests ∙ sym t;
 }
 
 -- what is not there was not there before
@@ -115,14 +132,21 @@ added a q r o e =
     filter-append (λ (l : Line). l.session == r) (ledger a) (lines_for (rates_in (setup_of a)) q (target_of a q))
     ∙ ap (λ t. lines_by r (ledger a) ++ lines_by r (lines_for (rates_in (setup_of a)) q t)) e
 
+-- and to its requests
+asked : (a : List Command) (q : Request) (r : ℕ) (o : Option Target) → target_of a q ≡ o
+    → requests_by (Charge q ∷ a) r ≡ cond (is_at r o) (content q ∷ requests_by a r) (requests_by a r)
+asked a q r o e = ap (λ (t : Option Target). cond (is_at r t) (content q ∷ requests_by a r) (requests_by a r)) e
+
 -- one that is not accepted charges nothing
 unknown_lined : (a : List Command) (q : Request) → AreLined a → target_of a q ≡ None
     → ((n : Name) → reference_of (Charge q ∷ a) n ≡ reference_of a n)
     → is_success (first_reply a q) ≡ false → AreLined (Charge q ∷ a)
 unknown_lined a q l t refs g = record {
   each = λ n r e. still_lined (Charge q) a n r refl (same r)
-      (not_accepted a q (is_of (key_of a q) n) (first_reply a q) (kept_of a n) g) (l.each n r (sym (refs n) ∙ e));
+      (not_accepted a q (is_of (key_of a q) n) (first_reply a q) (kept_of a n) g) (asked a q r None t)
+      (l.each n r (sym (refs n) ∙ e));
   beyond = λ r e. same r ∙ l.beyond r (none_before (Charge q) a r e);
+  unasked = λ r e. asked a q r None t ∙ l.unasked r (none_before (Charge q) a r e);
 }
   where
     same : (r : ℕ) → lines_by r (ledger (Charge q ∷ a)) ≡ lines_by r (ledger a)
@@ -136,6 +160,16 @@ module _ (a : List Command) (q : Request) (m : Name) (t : Target) (l : AreLined 
       added a q r (Some t) at
       ∙ ap (λ x. lines_by r (ledger a) ++ x) (of_usage (rates a) t r false (eq_no t.session r d) q.usage)
       ∙ append-nil (lines_by r (ledger a))
+
+  others_asked : (r : ℕ) → t.session ≢ r → requests_by (Charge q ∷ a) r ≡ requests_by a r
+  others_asked r d =
+      asked a q r (Some t) at ∙ ap (λ b. cond b (content q ∷ requests_by a r) (requests_by a r)) (eq_no t.session r d)
+
+  own_asked : requests_by (Charge q ∷ a) t.session ≡ content q ∷ requests_by a t.session
+  own_asked =
+      asked a q t.session (Some t) at
+      ∙ ap (λ b. cond b (content q ∷ requests_by a t.session) (requests_by a t.session))
+      (eq_yes t.session t.session refl)
 
   all : lines_by t.session (ledger (Charge q ∷ a))
       ≡ lines_by t.session (ledger a) ++ lines_of (rates_in (setup_of a)) t q.usage
@@ -152,14 +186,15 @@ module _ (a : List Command) (q : Request) (m : Name) (t : Target) (l : AreLined 
   -- its own session, of which the lines before are those of its accepted requests before
   own_lined : (x : Lasting) → owner (sessions (Charge q ∷ a)) t.session ≡ Some x → x.account ≡ t.account
       → lines_by t.session (ledger a) ≡ lines_of_all (rates_in (setup_of a)) x.account t.session (accepted (kept_of a m))
-      → IsLined (Charge q ∷ a) m t.session
-  own_lined x o e f = record {
+      → requests_by a t.session ≡ accepted (kept_of a m) → IsLined (Charge q ∷ a) m t.session
+  own_lined x o e f g = record {
     lasts = x;
     there = o;
     lines =
         all
         ∙ (λ i. f i ++ lines_of (rates_in (setup_of a)) (record { account = sym e i; session = t.session }) q.usage)
         ∙ sym (ap (lines_of_all (rates_in (setup_of a)) x.account t.session) one_more);
+    requests = own_asked ∙ ap (λ l. content q ∷ l) g ∙ sym one_more;
   }
 
   -- a reference after it: its own session's, or that of another as before
@@ -175,12 +210,16 @@ module _ (a : List Command) (q : Request) (m : Name) (t : Target) (l : AreLined 
         (λ (w : (m ≡ n) × (t.session ≡ r)).
         subst (λ x. IsLined (Charge q ∷ a) n x) w.1 (subst (λ x. IsLined (Charge q ∷ a) x t.session) w.0 h))
         (λ (w : (reference_of a n ≡ Some r) × (t.session ≢ r) × (same_session m n ≡ false)).
-        still_lined (Charge q) a n r refl (others r w.1) (ap accepted (kept_elsewhere a q m n mine w.2)) (l.each n r w.0))
+        still_lined (Charge q) a n r refl (others r w.1) (ap accepted (kept_elsewhere a q m n mine w.2))
+        (others_asked r w.1) (l.each n r w.0))
         (splits n r e);
-    beyond = λ r e.
-        others r (λ z. let w : Some h.lasts ≡ None = sym h.there ∙ ap (owner (sessions (Charge q ∷ a))) z ∙ e in cc)
-        ∙ l.beyond r (none_before (Charge q) a r e);
+    beyond = λ r e. others r (elsewhere r e) ∙ l.beyond r (none_before (Charge q) a r e);
+    unasked = λ r e. others_asked r (elsewhere r e) ∙ l.unasked r (none_before (Charge q) a r e);
   }
+    where
+      elsewhere : (r : ℕ) → owner (sessions (Charge q ∷ a)) r ≡ None → t.session ≢ r
+      elsewhere r e z =
+          let w : Some h.lasts ≡ None = sym h.there ∙ ap (owner (sessions (Charge q ∷ a))) z ∙ e in cc
 
 -- a Create that opens a session
 opens_lined : (a : List Command) (q : Request) (x : ℕ) → AreBySession a → AreLined a → q.operation ≡ Create
@@ -191,7 +230,8 @@ opens_lined a q x s l e f unnamed = charged_lined a q mine t l own_it at good sp
     ((λ i. owner (sessions_after (e i) q (f i) (sessions a)) (length (sessions a) + 1))
     ∙ pushed_owner (sessions a) (new_session q x)) refl
     (l.beyond (length (sessions a) + 1) (past_end (sessions a))
-    ∙ sym (ap (lines_of_all (rates_in (setup_of a)) x (length (sessions a) + 1)) (s.none mine unnamed))))
+    ∙ sym (ap (lines_of_all (rates_in (setup_of a)) x (length (sessions a) + 1)) (s.none mine unnamed)))
+    (l.unasked (length (sessions a) + 1) (past_end (sessions a)) ∙ sym (s.none mine unnamed)))
   where
     mine : Name
     mine = name q.consumer (id_of q.charging_id)
@@ -233,7 +273,8 @@ goes_lined : (a : List Command) (q : Request) (m : Name) (p : ℕ) (x : Session)
 goes_lined a q m p x s l own_it at_p named at shut good = charged_lined a q m t l own_it at good splits
     (own_lined a q m t l own_it at good (lasting x) (keeps_one (Charge q) a p (lasting x) there) refl
     (before.lines
-    ∙ ap (λ (y : Lasting). lines_of_all (rates_in (setup_of a)) y.account p (accepted (kept_of a m))) same_lasts))
+    ∙ ap (λ (y : Lasting). lines_of_all (rates_in (setup_of a)) y.account p (accepted (kept_of a m))) same_lasts)
+    before.requests)
   where
     t : Target
     t = record { account = x.account; session = p }
@@ -313,20 +354,22 @@ charge_lined a q o s l d = by q.operation refl (is_new a q o k.0 k.1 d)
 -- ---- every list that came to be
 
 nothing_lined : AreLined []
-nothing_lined = record { each = λ n r e. absurd (cc); beyond = λ r e. refl }
+nothing_lined = record { each = λ n r e. absurd (cc); beyond = λ r e. refl; unasked = λ r e. refl }
 
 -- a setup comes first
 setup_lined : (setup : ChfSetup) (a : List Command) → (true ≡ (length a == 0)) → AreLined (Setup setup ∷ a)
-setup_lined setup [] e = record { each = λ n r w. absurd (cc); beyond = λ r w. refl }
+setup_lined setup [] e = record { each = λ n r w. absurd (cc); beyond = λ r w. refl; unasked = λ r w. refl }
 setup_lined setup (c ∷ a) e = absurd (let h : suc (length a) ≡ 0 = same_number (suc (length a)) 0 (sym e) in omega arith)
 
 -- what is no request changes nothing
 same_lined : (c : Command) (a : List Command) → sessions (c ∷ a) ≡ sessions a → setup_of (c ∷ a) ≡ setup_of a
     → ledger (c ∷ a) ≡ ledger a → ((n : Name) → kept_of (c ∷ a) n ≡ kept_of a n)
-    → ((n : Name) → reference_of (c ∷ a) n ≡ reference_of a n) → AreLined a → AreLined (c ∷ a)
-same_lined c a w p e t n l = record {
-  each = λ m r x. still_lined c a m r p (ap (lines_by r) e) (ap accepted (t m)) (l.each m r (sym (n m) ∙ x));
+    → ((n : Name) → reference_of (c ∷ a) n ≡ reference_of a n)
+    → ((r : ℕ) → requests_by (c ∷ a) r ≡ requests_by a r) → AreLined a → AreLined (c ∷ a)
+same_lined c a w p e t n s l = record {
+  each = λ m r x. still_lined c a m r p (ap (lines_by r) e) (ap accepted (t m)) (s r) (l.each m r (sym (n m) ∙ x));
   beyond = λ r x. ap (lines_by r) e ∙ l.beyond r (none_before c a r x);
+  unasked = λ r x. s r ∙ l.unasked r (none_before c a r x);
 }
 
 lined : (a : List Command) → IsHistory a → AreLined a
@@ -334,7 +377,12 @@ lined [] h = nothing_lined
 lined (Setup p ∷ a) h = setup_lined p a h.1.0
 lined (Charge q ∷ a) h =
     let f = are_fresh (Charge q ∷ a) h in charge_lined a q f.0.0 (by_session a f.1) (lined a h.1.1) f.0.1
-lined (c ∷ a) h = same_lined c a refl refl refl (λ n. refl) (λ n. refl) (lined a h.1.1)
+lined (c ∷ a) h = same_lined c a refl refl refl (λ n. refl) (λ n. refl) (λ r. refl) (lined a h.1.1)
+
+-- those that charge the session of a name
+pub requests_are : (a : List Command) (n : Name) (r : ℕ) → IsHistory a → reference_of a n ≡ Some r
+    → requests_by a r ≡ accepted (kept_of a n)
+requests_are a n r h e = ((lined a h).each n r e).requests
 
 pub by_sessions : (a : List Command) (n : Name) → IsHistory a → LinesAreOf a (kept_of a n) (reference_of a n)
 by_sessions a n h = at (reference_of a n) refl

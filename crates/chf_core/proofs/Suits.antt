@@ -4,8 +4,9 @@ use Rattle.units.specs.declared.request.Operation.{Operation}
 use Rattle.units.specs.declared.request.Operation.TheVariants.{Create, Update, Release}
 use Rattle.units.specs.declared.request.Request.{Request}
 use Rattle.accounts.specs.Endings.{count_ending, Until}
+use Rattle.records.specs.Book.{closable}
 use Rattle.chf_core.specs.declared.command.Command.{Command}
-use Rattle.chf_core.specs.declared.command.Command.TheVariants.{Setup, Charge, Subscriber, TopUp, Expire}
+use Rattle.chf_core.specs.declared.command.Command.TheVariants.{Setup, Charge, Subscriber, TopUp, Expire, CloseRecords}
 use Rattle.chf_core.specs.declared.command.Outcome.TheVariants.{Charged, Done}
 use Rattle.chf_core.specs.declared.refusal.ChfRefusal.TheVariants.{SessionClosed, SequencePassed, TopUpDiffers}
 use Rattle.chf_core.specs.declared.decision.Verdict.TheVariants.{Known, Refused, Fresh}
@@ -16,6 +17,7 @@ use Rattle.chf_core.specs.Operator.{name_eq, subscription_of, account_number, to
 use Rattle.chf_core.specs.Sessions.{named_by}
 use Rattle.chf_core.specs.Keys.{key_of, place_of, command_at, is_repeat}
 use Rattle.chf_core.specs.Money.{money, first_reply}
+use Rattle.chf_core.specs.Filed.{book}
 use Rattle.chf_core.specs.Decisions.{decision, at_key, at_place, at_new, at_new_create, at_new_later, at_kept, last_of, decide_subscriber, decide_again, decide_topup, same_row}
 use Rattle.chf_core.specs.Verdicts.{IsOfRequest, IsOfOperator, IsOfCommand}
 use Rattle.chf_core.proofs.FirstReplies.{first_replies}
@@ -75,3 +77,4 @@ suits commands (TopUp id account amount) = by_number (account_number commands ac
     by_number None = tt
     by_number (Some number) = again_suits account amount (topup_of commands id)
 suits commands (Expire moment) = elim (count_ending (money commands).reservations (Until moment) == 0) as (λ b. IsOfOperator (cond b Known (Fresh Done))) [ true ↦ tt | false ↦ refl ]
+suits commands (CloseRecords moment) = elim (closable (book commands).sessions == 0) as (λ b. IsOfOperator (cond b Known (Fresh Done))) [ true ↦ tt | false ↦ refl ]

@@ -6,7 +6,7 @@ use Rattle.sessions.specs.Content.{content}
 use Rattle.accounts.specs.declared.moves.Move.{Move}
 use Rattle.accounts.specs.Making.{made, onto}
 use Rattle.chf_core.specs.declared.command.Command.{Command}
-use Rattle.chf_core.specs.declared.command.Command.TheVariants.{Setup, Charge, Subscriber, TopUp, Expire}
+use Rattle.chf_core.specs.declared.command.Command.TheVariants.{Setup, Charge, Subscriber, TopUp}
 use Rattle.chf_core.specs.declared.command.Outcome.{Outcome}
 use Rattle.chf_core.specs.declared.command.Outcome.TheVariants.{Charged}
 use Rattle.chf_core.specs.declared.decision.Verdict.TheVariants.{Fresh}
@@ -46,7 +46,7 @@ written s (Subscriber supi account barred) = record s {
 }
 written s (TopUp id account amount) =
     record s { topups = with_text s.topups id (record { account = account; amount = amount }) }
-written s (Expire moment) = s
+written s other = s
 
 -- the state after a command: its moves are made, what it files stands in the records, and there is one command more
 abbrev pub after : State → Command → State

@@ -24,6 +24,7 @@ pub record CanFile (b : BookSeen) (reference : ℕ) (used : List UnitUsage) : Ty
   pub places : 0 < b.places
   pub spare : length b.records.sessions + 2 ≤ b.spare
   pub few : length b.records.closed + 1 < 2 ^ 32 - 2
+  pub all : length b.records.closed + length b.records.sessions < 2 ^ 32 - 1
 
 -- the reference of the session in whose records a request files
 abbrev pub reference_by : Operation → ℕ → ℕ

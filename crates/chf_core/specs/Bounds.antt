@@ -4,7 +4,7 @@ use Rattle.units.specs.declared.request.Used.{Used}
 use Rattle.units.specs.declared.request.UnitUsage.{UnitUsage}
 use Rattle.accounts.specs.Ledger.{numbers}
 use Rattle.chf_core.specs.declared.command.Command.{Command}
-use Rattle.chf_core.specs.declared.command.Command.TheVariants.{Setup, Charge, Subscriber, TopUp, Expire}
+use Rattle.chf_core.specs.declared.command.Command.TheVariants.{Charge, TopUp}
 use Rattle.chf_core.specs.Admits.{containers}
 use Rattle.chf_core.specs.Money.{money}
 
@@ -21,29 +21,21 @@ UsageWithin (u ∷ usage) = UsedWithin u.used × UsageWithin usage
 -- so in each request, and each top-up is of at most 2 ^ 80 grains
 abbrev pub AreWithin : List Command → Type 0
 AreWithin [] = Unit {0}
-AreWithin (Setup setup ∷ before) = AreWithin before
 AreWithin (Charge q ∷ before) = UsageWithin q.usage × AreWithin before
-AreWithin (Subscriber supi account barred ∷ before) = AreWithin before
 AreWithin (TopUp id account amount ∷ before) = (amount ≤ 2 ^ 80) × AreWithin before
-AreWithin (Expire moment ∷ before) = AreWithin before
+AreWithin (c ∷ before) = AreWithin before
 
 -- how many containers there are
 abbrev pub containers_in : List Command → ℕ
 containers_in [] = 0
-containers_in (Setup setup ∷ before) = containers_in before
 containers_in (Charge q ∷ before) = containers_in before + containers q.usage
-containers_in (Subscriber supi account barred ∷ before) = containers_in before
-containers_in (TopUp id account amount ∷ before) = containers_in before
-containers_in (Expire moment ∷ before) = containers_in before
+containers_in (c ∷ before) = containers_in before
 
 -- and how many top-ups
 abbrev pub topups_in : List Command → ℕ
 topups_in [] = 0
-topups_in (Setup setup ∷ before) = topups_in before
-topups_in (Charge q ∷ before) = topups_in before
-topups_in (Subscriber supi account barred ∷ before) = topups_in before
 topups_in (TopUp id account amount ∷ before) = topups_in before + 1
-topups_in (Expire moment ∷ before) = topups_in before
+topups_in (c ∷ before) = topups_in before
 
 -- what an account was charged is at most 2 ^ 94 for each container, and what was topped up at most 2 ^ 80 for each top-up
 pub record IsBounded (commands : List Command) (account : ℕ) : Type 0 where

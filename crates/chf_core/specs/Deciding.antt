@@ -9,8 +9,9 @@ use Rattle.units.specs.declared.reply.Reply.{Reply}
 use Rattle.units.specs.declared.reply.Reply.TheVariants as reply
 use Rattle.sessions.specs.Content.{same_content}
 use Rattle.accounts.specs.Endings.{count_ending, Until}
+use Rattle.records.specs.Book.{closable}
 use Rattle.chf_core.specs.declared.command.Command.{Command}
-use Rattle.chf_core.specs.declared.command.Command.TheVariants.{Setup, Charge, Subscriber, TopUp, Expire}
+use Rattle.chf_core.specs.declared.command.Command.TheVariants.{Setup, Charge, Subscriber, TopUp, Expire, CloseRecords}
 use Rattle.chf_core.specs.declared.command.Outcome.{Outcome}
 use Rattle.chf_core.specs.declared.command.Outcome.TheVariants as outcome
 use Rattle.chf_core.specs.declared.refusal.ChfRefusal.TheVariants.{SessionExists, SessionClosed, SequencePassed, UnknownReference}
@@ -20,7 +21,7 @@ use Rattle.chf_core.specs.declared.session.Session.{Session}
 use Rattle.chf_core.specs.declared.key.Key.{Key}
 use Rattle.chf_core.specs.declared.kept_request.KeptRequest.{KeptRequest}
 use Rattle.chf_core.specs.Money.{failover_in, user_unknown}
-use Rattle.chf_core.specs.Decisions.{last_of, at_kept, same_row, decide_subscriber, decide_topup, decide_expire}
+use Rattle.chf_core.specs.Decisions.{last_of, at_kept, same_row, decide_subscriber, decide_topup, decide_counted}
 use Rattle.chf_core.specs.State.{State, at_text, account_named, account_for, named_by, key_of, place_of, kept_at}
 use Rattle.chf_core.specs.CommandMoves.{target_of, rating_of, infos_for}
 
@@ -103,4 +104,5 @@ decision s (Setup setup) = Fresh outcome.Done
 decision s (Charge q) = at_key s q (key_of s q)
 decision s (Subscriber supi account barred) = decide_subscriber (same_row account barred (at_text s.subscribers supi))
 decision s (TopUp id account amount) = decide_topup account amount (account_named s account) (at_text s.topups id)
-decision s (Expire moment) = decide_expire (count_ending s.money.reservations (Until moment))
+decision s (Expire moment) = decide_counted (count_ending s.money.reservations (Until moment))
+decision s (CloseRecords moment) = decide_counted (closable s.book.sessions)

@@ -6,8 +6,9 @@ use Rattle.units.specs.declared.request.Operation.{Operation}
 use Rattle.units.specs.declared.request.Operation.TheVariants.{Create, Update, Release}
 use Rattle.units.specs.declared.request.Request.{Request}
 use Rattle.accounts.specs.Endings.{count_ending, Until}
+use Rattle.records.specs.Book.{closable}
 use Rattle.chf_core.specs.declared.command.Command.{Command}
-use Rattle.chf_core.specs.declared.command.Command.TheVariants.{Setup, Charge, Subscriber, TopUp, Expire}
+use Rattle.chf_core.specs.declared.command.Command.TheVariants.{Setup, Charge, Subscriber, TopUp, Expire, CloseRecords}
 use Rattle.chf_core.specs.declared.command.Outcome.TheVariants as outcome
 use Rattle.chf_core.specs.declared.refusal.ChfRefusal.TheVariants.{UnknownAccount, SessionExists, SessionClosed, SequencePassed, UnknownReference, TopUpDiffers}
 use Rattle.chf_core.specs.declared.decision.Verdict.{Verdict}
@@ -20,6 +21,7 @@ use Rattle.chf_core.specs.Operator.{name_eq, subscription_of, account_number, to
 use Rattle.chf_core.specs.Sessions.{named_by}
 use Rattle.chf_core.specs.Keys.{key_of, place_of, command_at, is_repeat}
 use Rattle.chf_core.specs.Money.{money, first_reply}
+use Rattle.chf_core.specs.Filed.{book}
 
 -- whether a verdict finds a command fresh
 abbrev pub is_fresh : Verdict → Bool
@@ -87,9 +89,9 @@ abbrev pub decide_topup : List ℕ → ℕ → Option ℕ → Option Sum → Ver
 decide_topup account amount None sum = Refused UnknownAccount
 decide_topup account amount (Some number) sum = decide_again account amount sum
 
--- an Expire that gives nothing back changes nothing
-abbrev pub decide_expire : ℕ → Verdict
-decide_expire ending = if ending == 0 then Known else Fresh outcome.Done
+-- a command that ends so many quotas or records changes nothing where there are none
+abbrev pub decide_counted : ℕ → Verdict
+decide_counted count = if count == 0 then Known else Fresh outcome.Done
 
 -- the decision on a command
 abbrev pub decision : List Command → Command → Verdict
@@ -97,4 +99,5 @@ decision commands (Setup setup) = Fresh outcome.Done
 decision commands (Charge q) = at_key commands q (key_of commands q)
 decision commands (Subscriber supi account barred) = decide_subscriber (same_row account barred (subscription_of commands supi))
 decision commands (TopUp id account amount) = decide_topup account amount (account_number commands account) (topup_of commands id)
-decision commands (Expire moment) = decide_expire (count_ending (money commands).reservations (Until moment))
+decision commands (Expire moment) = decide_counted (count_ending (money commands).reservations (Until moment))
+decision commands (CloseRecords moment) = decide_counted (closable (book commands).sessions)

@@ -10,13 +10,13 @@ use Rattle.units.specs.declared.request.UnitUsage.{UnitUsage}
 use Rattle.units.specs.declared.request.Request.{Request}
 use Rattle.records.specs.declared.limits.RecordLimits.{RecordLimits}
 use Rattle.records.specs.declared.filing.Filing.{Filing}
-use Rattle.records.specs.declared.filing.Filing.TheVariants.{Begun, Added, Ended}
+use Rattle.records.specs.declared.filing.Filing.TheVariants.{Begun, Added, Ended, ClosedAll}
 use Rattle.records.specs.Usage.{with_usage}
 use Rattle.records.specs.Closing.{no_limits}
 use Rattle.records.specs.Book.{Records, after}
 use Rattle.chf_core.specs.declared.setup.ChfSetup.{ChfSetup}
 use Rattle.chf_core.specs.declared.command.Command.{Command}
-use Rattle.chf_core.specs.declared.command.Command.TheVariants.{Charge}
+use Rattle.chf_core.specs.declared.command.Command.TheVariants.{Charge, CloseRecords}
 use Rattle.chf_core.specs.Operator.{name_eq}
 use Rattle.chf_core.specs.Sessions.{id_of, supi_of, opens_by}
 use Rattle.chf_core.specs.State.{State, account_for}
@@ -59,6 +59,7 @@ filings_by (Release reference) sessions q opens =
 -- what a command files
 abbrev pub filings_of : State → Command → List Filing
 filings_of s (Charge q) = filings_by q.operation (length s.sessions) q (opens_by q.operation (account_for s q.subscriber))
+filings_of s (CloseRecords moment) = ClosedAll moment ∷ []
 filings_of s other = []
 
 -- a book after some calls, the first one first

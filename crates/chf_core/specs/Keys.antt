@@ -6,7 +6,7 @@ use Rattle.units.specs.declared.request.Operation.TheVariants.{Create, Update, R
 use Rattle.units.specs.declared.request.Request.{Request}
 use Rattle.sessions.specs.Content.{same_content}
 use Rattle.chf_core.specs.declared.command.Command.{Command}
-use Rattle.chf_core.specs.declared.command.Command.TheVariants.{Setup, Charge, Subscriber, TopUp, Expire}
+use Rattle.chf_core.specs.declared.command.Command.TheVariants.{Charge}
 use Rattle.chf_core.specs.declared.session.Session.{Session}
 use Rattle.chf_core.specs.declared.key.Key.{Key}
 use Rattle.chf_core.specs.Operator.{name_eq}
@@ -43,11 +43,8 @@ is_key (Some j) k = key_eq j k
 -- the place of the first request with a key: how many commands were before it
 abbrev pub place_of : List Command → Key → Option ℕ
 place_of [] k = None
-place_of (Setup setup ∷ before) k = place_of before k
 place_of (Charge q ∷ before) k = option_or (place_of before k) (cond (is_key (key_of before q) k) (Some (length before)) None)
-place_of (Subscriber supi account barred ∷ before) k = place_of before k
-place_of (TopUp id account amount ∷ before) k = place_of before k
-place_of (Expire moment ∷ before) k = place_of before k
+place_of (c ∷ before) k = place_of before k
 
 -- the command at a place
 abbrev pub command_at : List Command → ℕ → Option Command
@@ -56,9 +53,5 @@ command_at (c ∷ before) place = cond (length before == place) (Some c) (comman
 
 -- whether a command is a request of this content
 abbrev pub is_repeat : Request → Option Command → Bool
-is_repeat q None = false
-is_repeat q (Some (Setup setup)) = false
 is_repeat q (Some (Charge kept)) = same_content kept q
-is_repeat q (Some (Subscriber supi account barred)) = false
-is_repeat q (Some (TopUp id account amount)) = false
-is_repeat q (Some (Expire moment)) = false
+is_repeat q other = false

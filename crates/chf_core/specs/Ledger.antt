@@ -8,7 +8,7 @@ use Rattle.rating.specs.Price.{price}
 use Rattle.accounts.specs.declared.line.Line.{Line}
 use Rattle.chf_core.specs.declared.target.Target.{Target}
 use Rattle.chf_core.specs.declared.command.Command.{Command}
-use Rattle.chf_core.specs.declared.command.Command.TheVariants.{Setup, Charge, Subscriber, TopUp, Expire}
+use Rattle.chf_core.specs.declared.command.Command.TheVariants.{Charge}
 use Rattle.chf_core.specs.Operator.{setup_of}
 use Rattle.chf_core.specs.Money.{rates_in, target_of}
 
@@ -28,8 +28,5 @@ lines_for rates q (Some t) = lines_of rates t q.usage
 -- the lines of all requests, the oldest first
 abbrev pub ledger : List Command → List Line
 ledger [] = []
-ledger (Setup setup ∷ before) = ledger before
 ledger (Charge q ∷ before) = ledger before ++ lines_for (rates_in (setup_of before)) q (target_of before q)
-ledger (Subscriber supi account barred ∷ before) = ledger before
-ledger (TopUp id account amount ∷ before) = ledger before
-ledger (Expire moment ∷ before) = ledger before
+ledger (c ∷ before) = ledger before

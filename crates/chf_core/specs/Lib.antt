@@ -1,5 +1,7 @@
 pub mod Same
 pub mod Filings
+pub mod Filed
+pub mod RecordLaws
 pub mod Booked
 pub mod Barring
 pub mod Operator

@@ -10,7 +10,7 @@ use Rattle.records.specs.Seen.{BookSeen}
 use Rattle.accounts.specs.Ledger.{State as Money, numbers}
 use Rattle.accounts.specs.Making.{AreMakeable}
 use Rattle.chf_core.specs.declared.command.Command.{Command}
-use Rattle.chf_core.specs.declared.command.Command.TheVariants.{Setup, Charge, Subscriber, TopUp, Expire}
+use Rattle.chf_core.specs.declared.command.Command.TheVariants.{Setup, Charge, Subscriber, TopUp, Expire, CloseRecords}
 use Rattle.chf_core.specs.declared.decision.Change.{Change}
 use Rattle.chf_core.specs.declared.decision.Change.TheVariants as change
 use Rattle.chf_core.specs.declared.decision.Plan.{Plan}
@@ -74,6 +74,7 @@ Writes m (Subscriber supi account barred) (change.Subscriber name groups) =
     IsProvided m.state.names account name × ((group : ℕ) → contains nat_eq groups group ≡ bars barred group)
 Writes m (TopUp id account amount) change.TopUp = ⊤
 Writes m (Expire moment) change.Expire = ⊤
+Writes m (CloseRecords moment) change.CloseRecords = ⊤
 Writes m other change = ⊥
 
 -- a plan has what comes of a command: its outcome, its moves, which can be made, and what its commit writes besides

@@ -1,15 +1,20 @@
--- What is kept of names: a table from the text to the number, and the texts in the order in which they came. No public clause names these.
-use Rattle.std.specs.Prelude.{◌≡◌, ℕ, ◌-◌, ◌≤◌, min, List, reverse, map, string_bytes, vec_len, vec_capacity}
-use Rattle.std.specs.HashMap.{get_by_text, spare}
+-- What is kept of names: their texts, found by text and by place. No public clause names these.
+use Rattle.std.specs.Prelude.{◌≡◌, ℕ, ◌-◌, ◌≤◌, min, Bool, bytes_eq, List, reverse, map, position, String, string_bytes}
+use Rattle.std.specs.declared.alloc.Global.{Global}
+use Rattle.indexmap.specs.IndexSet.{index_set_len, spare}
 use Rattle.chf_core.specs.declared.names.Names.TheInside.{Inside}
 use Rattle.chf_core.specs.Operator.{number_in}
 use Rattle.chf_core.specs.Named.{Named}
 
 -- the value of the names
 abbrev pub named : Inside → Named
-named n = record { list = reverse (map string_bytes n.texts.items); room = min (min (vec_capacity n.texts - vec_len n.texts) (spare n.numbers)) (4294967295 - vec_len n.texts) }
+named n = record { list = reverse (map string_bytes n.texts.keys); room = min (spare n.texts) (4294967295 - index_set_len n.texts) }
 
--- each text has its number in the table, and the numbers fit their type
+-- whether a text is a name
+abbrev pub is_name : List ℕ → String Global → Bool
+is_name name text = bytes_eq name (string_bytes text)
+
+-- the place of each text is its number, and the numbers fit their type
 pub record AreNumbered (n : Inside) : Type 0 where
-  pub numbers : (name : List ℕ) → get_by_text n.numbers name ≡ number_in (reverse (map string_bytes n.texts.items)) name
-  pub few : vec_len n.texts ≤ 4294967295
+  pub numbers : (name : List ℕ) → position (is_name name) n.texts.keys ≡ number_in (reverse (map string_bytes n.texts.keys)) name
+  pub few : index_set_len n.texts ≤ 4294967295

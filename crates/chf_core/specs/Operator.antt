@@ -6,7 +6,7 @@ use Rattle.chf_core.specs.declared.setup.ChfSetup.{ChfSetup}
 use Rattle.chf_core.specs.declared.subscription.Subscription.{Subscription}
 use Rattle.chf_core.specs.declared.subscription.Sum.{Sum}
 use Rattle.chf_core.specs.declared.command.Command.{Command}
-use Rattle.chf_core.specs.declared.command.Command.TheVariants.{Setup, Charge, Subscriber, TopUp, Expire}
+use Rattle.chf_core.specs.declared.command.Command.TheVariants.{Setup, Subscriber, TopUp}
 
 -- whether two names are the same
 abbrev pub name_eq : List ℕ → List ℕ → Bool
@@ -16,19 +16,13 @@ name_eq = pointwise nat_eq
 abbrev pub setup_of : List Command → Option ChfSetup
 setup_of [] = None
 setup_of (Setup setup ∷ before) = Some setup
-setup_of (Charge request ∷ before) = setup_of before
-setup_of (Subscriber supi account barred ∷ before) = setup_of before
-setup_of (TopUp id account amount ∷ before) = setup_of before
-setup_of (Expire moment ∷ before) = setup_of before
+setup_of (c ∷ before) = setup_of before
 
 -- the latest row of a subscriber
 abbrev pub subscription_of : List Command → List ℕ → Option Subscription
 subscription_of [] supi = None
-subscription_of (Setup setup ∷ before) supi = subscription_of before supi
-subscription_of (Charge request ∷ before) supi = subscription_of before supi
 subscription_of (Subscriber other account barred ∷ before) supi = cond (name_eq other supi) (Some (record { account = account; barred = barred })) (subscription_of before supi)
-subscription_of (TopUp id account amount ∷ before) supi = subscription_of before supi
-subscription_of (Expire moment ∷ before) supi = subscription_of before supi
+subscription_of (c ∷ before) supi = subscription_of before supi
 
 -- the number of a name among names, the newest first: how many were there before it
 abbrev pub number_in : List (List ℕ) → List ℕ → Option ℕ
@@ -43,11 +37,8 @@ with_name names name (Some number) = names
 -- the names of the accounts, the newest first: an account comes to be with the first row that names it
 abbrev pub account_names : List Command → List (List ℕ)
 account_names [] = []
-account_names (Setup setup ∷ before) = account_names before
-account_names (Charge request ∷ before) = account_names before
 account_names (Subscriber supi account barred ∷ before) = with_name (account_names before) account (number_in (account_names before) account)
-account_names (TopUp id account amount ∷ before) = account_names before
-account_names (Expire moment ∷ before) = account_names before
+account_names (c ∷ before) = account_names before
 
 -- the number of an account by its name
 abbrev pub account_number : List Command → List ℕ → Option ℕ
@@ -65,8 +56,5 @@ barred_in (Some s) = s.barred
 -- the top-up with an id
 abbrev pub topup_of : List Command → List ℕ → Option Sum
 topup_of [] id = None
-topup_of (Setup setup ∷ before) id = topup_of before id
-topup_of (Charge request ∷ before) id = topup_of before id
-topup_of (Subscriber supi account barred ∷ before) id = topup_of before id
 topup_of (TopUp other account amount ∷ before) id = cond (name_eq other id) (Some (record { account = account; amount = amount })) (topup_of before id)
-topup_of (Expire moment ∷ before) id = topup_of before id
+topup_of (c ∷ before) id = topup_of before id

@@ -1,18 +1,15 @@
 -- What each command of a list, the newest first, came to (TS 32.290, 5.3.2; keeping first replies is this product's own).
 use Rattle.std.specs.Prelude.{ℕ, ◌==◌, cond, List, [], ◌∷◌, length, Option, Some, None}
 use Rattle.chf_core.specs.declared.command.Command.{Command}
-use Rattle.chf_core.specs.declared.command.Command.TheVariants.{Setup, Charge, Subscriber, TopUp, Expire}
+use Rattle.chf_core.specs.declared.command.Command.TheVariants.{Charge}
 use Rattle.chf_core.specs.declared.command.Outcome.{Outcome}
 use Rattle.chf_core.specs.declared.command.Outcome.TheVariants.{Charged, Done}
 use Rattle.chf_core.specs.Money.{first_reply}
 
 -- what a command comes to, from the commands before it
 abbrev pub outcome_of : List Command → Command → Outcome
-outcome_of before (Setup setup) = Done
 outcome_of before (Charge q) = Charged (first_reply before q)
-outcome_of before (Subscriber supi account barred) = Done
-outcome_of before (TopUp id account amount) = Done
-outcome_of before (Expire moment) = Done
+outcome_of before other = Done
 
 -- of each command of a list
 abbrev pub outcomes_of : List Command → List Outcome

@@ -4,7 +4,7 @@ use Rattle.units.specs.declared.request.Operation.{Operation}
 use Rattle.units.specs.declared.request.Operation.TheVariants.{Create, Update, Release}
 use Rattle.units.specs.declared.request.Request.{Request}
 use Rattle.chf_core.specs.declared.command.Command.{Command}
-use Rattle.chf_core.specs.declared.command.Command.TheVariants.{Setup, Charge, Subscriber, TopUp, Expire}
+use Rattle.chf_core.specs.declared.command.Command.TheVariants.{Charge}
 use Rattle.chf_core.specs.declared.session.Session.{Session}
 use Rattle.chf_core.specs.declared.key.Name.{Name}
 use Rattle.chf_core.specs.Operator.{name_eq, account_of}
@@ -51,11 +51,8 @@ sessions_after (Release reference) q account sessions = write_session sessions r
 -- the sessions, in the order of their references
 abbrev pub sessions : List Command → List Session
 sessions [] = []
-sessions (Setup setup ∷ before) = sessions before
 sessions (Charge q ∷ before) = sessions_after q.operation q (account_for before q.subscriber) (sessions before)
-sessions (Subscriber supi account barred ∷ before) = sessions before
-sessions (TopUp id account amount ∷ before) = sessions before
-sessions (Expire moment ∷ before) = sessions before
+sessions (c ∷ before) = sessions before
 
 -- the session with a reference after these commands
 abbrev pub session_at : List Command → ℕ → Option Session
@@ -82,11 +79,8 @@ opens before q = opens_by q.operation (account_for before q.subscriber)
 -- the reference of a session: the ordinal of its accepted Create, from 1
 abbrev pub reference_of : List Command → Name → Option ℕ
 reference_of [] n = None
-reference_of (Setup setup ∷ before) n = reference_of before n
 reference_of (Charge q ∷ before) n = cond (opens before q && same_session (name q.consumer (id_of q.charging_id)) n) (Some (length (sessions before) + 1)) (reference_of before n)
-reference_of (Subscriber supi account barred ∷ before) n = reference_of before n
-reference_of (TopUp id account amount ∷ before) n = reference_of before n
-reference_of (Expire moment ∷ before) n = reference_of before n
+reference_of (c ∷ before) n = reference_of before n
 
 -- the session of a reference, where there is one
 abbrev pub session_for : List Command → Option ℕ → Option Session

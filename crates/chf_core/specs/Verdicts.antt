@@ -2,7 +2,7 @@
 use Rattle.std.specs.Prelude.{◌≡◌, ⊤, List, Some}
 use Rattle.units.specs.declared.reply.Reply.{Reply}
 use Rattle.chf_core.specs.declared.command.Command.{Command}
-use Rattle.chf_core.specs.declared.command.Command.TheVariants.{Setup, Charge, Subscriber, TopUp, Expire}
+use Rattle.chf_core.specs.declared.command.Command.TheVariants.{Charge}
 use Rattle.chf_core.specs.declared.command.Outcome.TheVariants as outcome
 use Rattle.chf_core.specs.declared.refusal.ChfRefusal.{ChfRefusal}
 use Rattle.chf_core.specs.declared.refusal.ChfRefusal.TheVariants.{UnknownAccount, SessionExists, SessionClosed, SequencePassed, UnknownReference, TopUpDiffers}
@@ -45,11 +45,8 @@ IsOfOperator (Fresh o) = o ≡ outcome.Done
 
 -- a verdict is one that this command may get
 abbrev pub IsOfCommand : List Command → Command → Verdict → Type 0
-IsOfCommand commands (Setup setup) v = IsOfOperator v
 IsOfCommand commands (Charge q) v = IsOfRequest commands v
-IsOfCommand commands (Subscriber supi account barred) v = IsOfOperator v
-IsOfCommand commands (TopUp id account amount) v = IsOfOperator v
-IsOfCommand commands (Expire moment) v = IsOfOperator v
+IsOfCommand commands other v = IsOfOperator v
 
 -- So after every list of commands.
 abbrev pub VerdictsSuitCommands : Type 0

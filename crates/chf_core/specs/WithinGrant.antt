@@ -18,7 +18,7 @@ use Rattle.sessions.specs.Kept.{is_release}
 use Rattle.chf_core.specs.declared.target.Target.{Target}
 use Rattle.chf_core.specs.declared.target.GroupAsk.{GroupAsk}
 use Rattle.chf_core.specs.declared.command.Command.{Command}
-use Rattle.chf_core.specs.declared.command.Command.TheVariants.{Setup, Charge, Subscriber, TopUp, Expire}
+use Rattle.chf_core.specs.declared.command.Command.TheVariants.{Setup, Charge, Expire}
 use Rattle.chf_core.specs.Operator.{setup_of}
 use Rattle.chf_core.specs.Effect.{Rating, gives_back, asks_of, granted, with_grant, deadline_of, settled, charged_used, charged}
 use Rattle.chf_core.specs.Money.{money, rates_in, rating_of, target_of}
@@ -53,9 +53,8 @@ request_leaves session group q (Some t) = if t.session == session then not (list
 abbrev pub command_leaves : ℕ → ℕ → Option ℕ → List Command → Command → Bool
 command_leaves session group deadline before (Setup setup) = false
 command_leaves session group deadline before (Charge q) = request_leaves session group q (target_of before q)
-command_leaves session group deadline before (Subscriber supi account barred) = true
-command_leaves session group deadline before (TopUp id account amount) = true
 command_leaves session group deadline before (Expire moment) = not (is_passed moment deadline)
+command_leaves session group deadline before other = true
 
 -- whether each of the later commands leaves it
 abbrev pub grant_stands : ℕ → ℕ → Option ℕ → List Command → List Command → Bool
@@ -80,11 +79,8 @@ units_for kind session group q (Some t) = if t.session == session then units_in 
 -- the units of a session's group in all of the later commands
 abbrev pub units_since : Kind → ℕ → ℕ → List Command → List Command → ℕ
 units_since kind session group [] before = 0
-units_since kind session group (Setup setup ∷ later) before = units_since kind session group later before
 units_since kind session group (Charge q ∷ later) before = units_since kind session group later before + units_for kind session group q (target_of (later ++ before) q)
-units_since kind session group (Subscriber supi account barred ∷ later) before = units_since kind session group later before
-units_since kind session group (TopUp id account amount ∷ later) before = units_since kind session group later before
-units_since kind session group (Expire moment ∷ later) before = units_since kind session group later before
+units_since kind session group (c ∷ later) before = units_since kind session group later before
 
 -- what is owed of the container that a request charges after these entries and these containers of its own entry
 abbrev pub owed_of : List (List (List ℕ)) → Target → List UnitUsage → ℕ → List Used → Used → State → ℕ

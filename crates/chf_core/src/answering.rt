@@ -1,8 +1,9 @@
 //! What is answered on a command that is not fresh, by the order of checks.
 ghost use Rattle.std.specs.Prelude.{◌≡◌, ◌-◌, Some, option_copied};
 ghost use Rattle.accounts.specs.Endings.{count_ending, Until};
+ghost use Rattle.records.specs.Book.{closable};
 ghost use Rattle.chf_core.specs.Keys.{key};
-ghost use Rattle.chf_core.specs.Decisions.{last_of, at_kept, same_row, decide_subscriber, decide_again, decide_topup, decide_expire};
+ghost use Rattle.chf_core.specs.Decisions.{last_of, at_kept, same_row, decide_subscriber, decide_again, decide_topup, decide_counted};
 ghost use Rattle.chf_core.specs.State.{at_text, account_named, named_by, key_of, place_of};
 ghost use Rattle.chf_core.specs.Deciding.{decision, at_key, at_place, at_new, at_new_create, at_new_later};
 ghost use Rattle.chf_core.specs.Caches.{answer_by};
@@ -73,12 +74,22 @@ impl Chf {
     }
 
     fn answer_expire(&self, moment: Moment) -> Option<Decision>
-        ensures { result ≡ answer_by (decide_expire (count_ending self.now.state.money.reservations (Until moment))) }
+        ensures { result ≡ answer_by (decide_counted (count_ending self.now.state.money.reservations (Until moment))) }
     {
         if self.accounts.is_due(moment) {
             None
         } else {
             Some(Decision::Known)
+        }
+    }
+
+    fn answer_close(&self) -> Option<Decision>
+        ensures { result ≡ answer_by (decide_counted (closable self.now.state.book.sessions)) }
+    {
+        if self.book.closable() == 0 {
+            Some(Decision::Known)
+        } else {
+            None
         }
     }
 
@@ -157,6 +168,7 @@ impl Chf {
                 amount,
             } => self.answer_topup(id, account, *amount),
             Command::Expire { moment } => self.answer_expire(*moment),
+            Command::CloseRecords { .. } => self.answer_close(),
         }
     }
 }

@@ -138,6 +138,7 @@ impl Chf {
                 amount,
             } => self.commit_topup(id, account, amount, outcome, moves, change),
             Command::Expire { moment } => self.commit_expire(moment, outcome, moves, change),
+            Command::CloseRecords { moment } => self.commit_close(moment, outcome, moves, change),
         }
     }
 

@@ -29,6 +29,11 @@ pub enum Command {
     Expire {
         moment: Moment,
     },
+    /// Every charging record that has a container and is not closed is closed at this moment, for management
+    /// intervention (TS 32.255, 5.2.3; TS 32.298, 5.1.5.1.2).
+    CloseRecords {
+        moment: Moment,
+    },
 }
 
 /// What a command comes to (this product's own).

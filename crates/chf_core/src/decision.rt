@@ -4,7 +4,6 @@ ghost use Rattle.chf_core.specs.Machine.{filed_containers};
 
 use crate::command::{Command, Outcome};
 use crate::filing::Opening;
-use crate::names::NewName;
 use crate::refusal::ChfRefusal;
 use crate::session::Session;
 use accounts::Moves;
@@ -24,17 +23,18 @@ pub(crate) enum Change {
     Charge {
         charging_id: u32,
         session: Option<Session>,
-        consumer: Option<NewName>,
+        consumer: Option<String>,
         names: Option<Opening>,
         used: List<UnitUsage>,
     },
     /// The name of the account, where that is new, and the set of the barred groups.
     Subscriber {
-        name: Option<NewName>,
+        name: Option<String>,
         groups: HashSet<u32>,
     },
     TopUp,
     Expire,
+    CloseRecords,
 }
 
 impl Change {

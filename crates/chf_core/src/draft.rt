@@ -21,6 +21,13 @@ use std::alloc::Global;
 use std::collections::HashMap;
 use units::{List, Moment, Operation, OutOfMemory, Request, UnitInfo, UnitUsage, Used};
 
+// An empty list with a place for each of so many groups and no more, since a reply is kept.
+fn places_for(alloc: Global, count: usize) -> Result<List<UnitInfo>, OutOfMemory>
+    ensures { IfOk result (λ l. l ≡ []) }
+{
+    Ok(List::from_vec(Vec::with_capacity(alloc, count)?))
+}
+
 /// The moves so far; what would be free on the account after them, what was charged to it, and what is left of the
 /// groups that they change.
 #[derive(Drop)]
@@ -203,7 +210,7 @@ impl Draft {
             (grants (rating_by tariffs.now grace barred.now) t stamp asks.now (drafted self.old accounts.now.state))) }
         ensures holds { IfOk result (λ _. Holds self.new accounts.now.state t) }
     {
-        let mut told = List::new(alloc);
+        let mut told = places_for(alloc, asks.len())?;
         for a in asks {
             let grant = grant_for(tariffs, barred, self.free, a);
             let deadline = deadline_for(tariffs, grace, stamp, a.group);

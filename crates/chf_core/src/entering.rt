@@ -19,7 +19,7 @@ use crate::filing::file;
 use crate::kept_request::KeptRequest;
 use crate::key_table::KeyTable;
 use crate::lookups::id_of;
-use crate::names::{Names, NewName};
+use crate::names::Names;
 use crate::numbered::{NumberedKey, NumberedName};
 use crate::session::Session;
 use crate::setup::ChfSetup;
@@ -74,7 +74,7 @@ fn enter_key(
     charging_id: u32,
     place: u32,
     reference: Option<u32>,
-    new: Option<NewName>,
+    new: Option<String>,
 )
     requires known { AreKnown keyed.old }
     requires room { 0 < room keyed.old }
@@ -110,7 +110,7 @@ fn make_moves(accounts: &mut Accounts, moves: &Moves)
 }
 
 // A name has a number from the first time on that it comes.
-fn number_name(names: &mut Names, name: &str, new: Option<NewName>)
+fn number_name(names: &mut Names, name: &str, new: Option<String>)
     requires room { 0 < names.old.room }
     requires provided { IsProvided names.old.list name.now new }
     ensures { names.new.list ≡ with_name names.old.list name.now (number_in names.old.list name.now) }
@@ -238,6 +238,20 @@ impl Chf {
         ensures { self.new.state ≡ after self.old.state (Command.Expire moment) }
     {
         make_moves(&mut self.accounts, &moves);
+        self.count += 1;
+    }
+
+    pub(crate) fn commit_close(
+        &mut self,
+        moment: Moment,
+        outcome: Outcome,
+        moves: Moves,
+        change: Change,
+    )
+        requires { IsReady self.old (record { command = Command.CloseRecords moment; outcome = outcome; moves = moves; change = change }) }
+        ensures { self.new.state ≡ after self.old.state (Command.CloseRecords moment) }
+    {
+        let _ = self.book.close_all(moment);
         self.count += 1;
     }
 }

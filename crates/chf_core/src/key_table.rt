@@ -9,7 +9,7 @@ ghost use Rattle.chf_core.specs.Keys.{key, key_eq};
 ghost use Rattle.chf_core.specs.Named.{IsProvided};
 ghost use Rattle.chf_core.specs.KeyTable.{kept_place, kept_reference, AreKnown, IsSameKeyed, room};
 
-use crate::names::{Names, NewName};
+use crate::names::Names;
 use crate::numbered::{NumberedKey, NumberedName};
 use std::alloc::Global;
 use std::collections::HashMap;
@@ -88,7 +88,7 @@ impl KeyTable {
     }
 
     /// The number of a consumer, which is added where it is new.
-    pub fn number_for(&mut self, consumer: &str, new: Option<NewName>) -> u32
+    pub fn number_for(&mut self, consumer: &str, new: Option<String>) -> u32
         requires known { AreKnown self.old }
         requires room { 0 < room self.old }
         requires provided { IsProvided self.old.consumers.list consumer.now new }

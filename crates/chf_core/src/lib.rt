@@ -70,6 +70,7 @@ pub use laws::{
 pub use problems::{problem, refusal_reply};
 pub use refusal::ChfRefusal;
 pub use session_laws::{
-    first_replies_fit, kept_requests_grow, keys_stand, ledger_is_by_sessions, sessions_decide,
+    first_replies_fit, kept_requests_grow, keys_stand, ledger_is_by_sessions,
+    records_hold_accepted, sessions_decide,
 };
 pub use setup::ChfSetup;

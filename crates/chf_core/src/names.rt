@@ -1,25 +1,16 @@
 //! Names and their numbers, in the order in which they came.
-ghost use Rattle.std.specs.Prelude.{◌≡◌, ◌<◌, ◌≤◌, ◌∷◌, [], OnOk, IfOk, Some, None, length, reverse, slice_get, option_map, string_bytes};
+ghost use Rattle.std.specs.Prelude.{◌≡◌, ◌<◌, ◌≤◌, ◌∷◌, [], OnOk, Some, None, length, reverse, slice_get, option_map, string_bytes};
 ghost use Rattle.chf_core.specs.Operator.{number_in};
-ghost use Rattle.chf_core.specs.Named.{AreOf};
 
+use indexmap::IndexSet;
 use std::alloc::Global;
-use std::collections::HashMap;
 use std::marker::Model;
 use units::OutOfMemory;
-
-/// A name that is new: for the table, and for the list.
-#[derive(Debug, Drop)]
-pub(crate) struct NewName {
-    pub(crate) name: String,
-    pub(crate) again: String,
-}
 
 /// Names, each with its number: how many were there before it.
 #[derive(Drop)]
 pub(crate) struct Names {
-    numbers: HashMap<String, u32>,
-    texts: Vec<String>,
+    texts: IndexSet<String>,
 }
 
 impl Model for Names {
@@ -43,24 +34,12 @@ fn text_in(texts: &[String], place: usize) -> Option<&str>
     }
 }
 
-impl NewName {
-    pub fn of(alloc: Global, name: &str) -> Result<NewName, OutOfMemory>
-        ensures { IfOk result (λ n. AreOf name.now n) }
-    {
-        Ok(NewName {
-            name: String::from_str(alloc, name)?,
-            again: String::from_str(alloc, name)?,
-        })
-    }
-}
-
 impl Names {
     pub fn new(alloc: Global) -> Names
         ensures { result.list ≡ [] }
     {
         Names {
-            numbers: HashMap::new(alloc),
-            texts: Vec::new(alloc),
+            texts: IndexSet::new(alloc),
         }
     }
 
@@ -69,9 +48,7 @@ impl Names {
         ensures same { self.new.list ≡ self.old.list }
         ensures room { OnOk result (0 < self.new.room) }
     {
-        let texts = self.texts.reserve(1).is_ok();
-        let numbers = self.numbers.reserve(1).is_ok();
-        if texts && numbers && self.texts.len() < 4_294_967_295 {
+        if self.texts.reserve(1).is_ok() && self.texts.len() < 4_294_967_295 {
             Ok(())
         } else {
             Err(OutOfMemory)
@@ -82,14 +59,17 @@ impl Names {
     pub fn find(&self, name: &str) -> Option<u32>
         ensures { result ≡ number_in self.now.list name.now }
     {
-        self.numbers.get(name).copied()
+        match self.texts.get_index_of(name) {
+            Some(number) => Some(number as u32),
+            None => None,
+        }
     }
 
     /// The name with a number, if there is one.
     pub fn name(&self, number: u32) -> Option<&str>
         ensures { option_map (λ t. t.now) result ≡ slice_get (reverse self.now.list) number }
     {
-        text_in(&self.texts, number as usize)
+        text_in(self.texts.as_slice(), number as usize)
     }
 
     /// How many names there are.
@@ -100,16 +80,14 @@ impl Names {
     }
 
     /// Adds a name that has no number yet.
-    pub fn add(&mut self, new: NewName) -> u32
+    pub fn add(&mut self, name: String) -> u32
         requires room { 0 < self.old.room }
-        requires same { string_bytes new.again ≡ string_bytes new.name }
-        requires unknown { number_in self.old.list (string_bytes new.name) ≡ None }
+        requires unknown { number_in self.old.list (string_bytes name) ≡ None }
         ensures number { result ≡ length self.old.list }
-        ensures list { self.new.list ≡ string_bytes new.name ∷ self.old.list }
+        ensures list { self.new.list ≡ string_bytes name ∷ self.old.list }
     {
         let number = self.texts.len() as u32;
-        let _ = self.numbers.insert(new.name, number);
-        self.texts.push_reserved(new.again);
+        let _ = self.texts.insert(name);
         number
     }
 }

@@ -1,7 +1,7 @@
 //! The plan of a fresh command, which makes all the memory that its commit needs.
 ghost use Rattle.std.specs.Prelude.{◌≡◌, ◌<◌, ◌≤◌, ◌-◌, ◌^◌, ◌==◌, IfOk, IfSome, OnOk, IsSome, is_some, Some, true, false};
 ghost use Rattle.accounts.specs.Making.{AreMakeable};
-ghost use Rattle.chf_core.specs.declared.command.Command.TheVariants.{Setup, Charge, Subscriber, TopUp, Expire};
+ghost use Rattle.chf_core.specs.declared.command.Command.TheVariants.{Setup, Charge, Subscriber, TopUp, Expire, CloseRecords};
 ghost use Rattle.chf_core.specs.Sessions.{supi_of};
 ghost use Rattle.chf_core.specs.Keys.{key};
 ghost use Rattle.records.specs.Groups.{AreApart};
@@ -21,7 +21,7 @@ use crate::decision::{Change, Plan};
 use crate::draft::{Effect, effect_of};
 use crate::filing::{Opening, reference_by};
 use crate::lookups::id_of;
-use crate::names::{Names, NewName};
+use crate::names::Names;
 use crate::operator_moves::{adding, expiring, topping};
 use crate::session::Session;
 use crate::setup::ChfSetup;
@@ -30,13 +30,13 @@ use records::by_group;
 use std::alloc::Global;
 use units::{List, Moment, Operation, OutOfMemory, Request, Text, UnitUsage, copy};
 
-// The copies of a name that has no number.
-fn name_for(alloc: Global, names: &Names, name: &Text) -> Result<Option<NewName>, OutOfMemory>
+// The copy of a name that has no number.
+fn name_for(alloc: Global, names: &Names, name: &Text) -> Result<Option<String>, OutOfMemory>
     ensures { IfOk result (λ new. IsProvided names.now.list name.now new) }
 {
     match names.find(name.as_str()) {
         Some(_) => Ok(None),
-        None => Ok(Some(NewName::of(alloc, name.as_str())?)),
+        None => Ok(Some(String::from_str(alloc, name.as_str())?)),
     }
 }
 
@@ -270,6 +270,17 @@ impl Chf {
         })
     }
 
+    fn plan_close(&self, alloc: Global, moment: Moment) -> Result<Plan, OutOfMemory>
+        ensures { IfOk result (IsWorkedOut self.now (CloseRecords moment)) }
+    {
+        Ok(Plan {
+            command: Command::CloseRecords { moment },
+            outcome: Outcome::Done,
+            moves: Moves::new(alloc),
+            change: Change::CloseRecords,
+        })
+    }
+
     // ---- of each
 
     // All that comes of a command, worked out.
@@ -293,6 +304,7 @@ impl Chf {
                 amount,
             } => self.plan_topup(alloc, id, account, *amount),
             Command::Expire { moment } => self.plan_expire(alloc, *moment),
+            Command::CloseRecords { moment } => self.plan_close(alloc, *moment),
         }
     }
 
@@ -307,8 +319,8 @@ impl Chf {
         }
     }
 
-    // Room for one more command, for that many moves of money, and for what is filed in a session's records. There are
-    // fewer than 2^32 - 3 closed records.
+    // Room for one more command, for that many moves of money, and for what is filed in a session's records. Closed
+    // records and sessions together are fewer than 2^32 - 3, so that all records can be closed.
     fn make_room(
         &mut self,
         alloc: Global,
@@ -324,7 +336,7 @@ impl Chf {
         ensures moves { OnOk result (moves ≤ self.new.moves) }
         ensures files { OnOk result (CanFile self.new.book reference used.now) }
     {
-        if self.book.closed().len() >= 4_294_967_293 {
+        if self.book.closed().len().saturating_add(self.book.begun()) >= 4_294_967_293 {
             return Err(OutOfMemory);
         }
         let book = self.book.make_room(reference, used).is_ok();

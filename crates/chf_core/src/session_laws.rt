@@ -1,6 +1,9 @@
 //! What holds of each charging session in every list of commands.
 ghost use Rattle.chf_core.specs.InRange.{FirstRepliesFit};
+ghost use Rattle.chf_core.specs.RecordLaws.{RecordsAreFiled, RecordsAreInOrder, RecordsHoldAccepted, RecordsHoldTimes};
 ghost use Rattle.chf_core.specs.OfSessions.{CreatesHaveKeys, DecisionsByKept, KeptGrow, KeysAreOwn, KeysStand, LedgerBySessions, OwnAreKept, ReferencesName, RepliesTellSwitches, UnnamedAreRefused};
+
+use records::{containers_in_order, containers_stand_once};
 
 /// A law of all lists of commands; it does nothing. The key of a request has the request's own consumer and number, and
 /// a Create has one; what a reference names stays, and the reference that a kept Create was given names its session
@@ -37,6 +40,20 @@ pub fn ledger_is_by_sessions()
     ensures lines { LedgerBySessions }
     ensures switches { RepliesTellSwitches }
 {}
+
+/// A law of all lists of commands that came to be; it does nothing. The records are those that all filings leave, under
+/// the limits of the setup; each container of a session's accepted requests stands in exactly one of its records, closed
+/// or open, and no other container in any, and they are divided into these in order; and how often a container stands in
+/// them is how often the accepted requests charge it (TS 32.255, 5.2.3).
+pub fn records_hold_accepted()
+    ensures filed { RecordsAreFiled }
+    ensures held { RecordsHoldAccepted }
+    ensures order { RecordsAreInOrder }
+    ensures times { RecordsHoldTimes }
+{
+    containers_stand_once();
+    containers_in_order();
+}
 
 /// A law of all lists of commands; it does nothing. The first reply to a request in the ranges of its format is in those
 /// of a reply, so that it is written so that it reads back (TS 32.291, 6.1.6.2.1.6; the ranges are this product's own).

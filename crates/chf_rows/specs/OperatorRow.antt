@@ -1,8 +1,8 @@
--- The operator's rows: `subscriber,SUPI,ACCOUNT,BARRED`, `topup,ID,ACCOUNT,AMOUNT` and `expire,MOMENT` (this product's own).
+-- The operator's rows: `subscriber,SUPI,ACCOUNT,BARRED`, `topup,ID,ACCOUNT,AMOUNT`, `expire,MOMENT` and `close,MOMENT` (this product's own).
 use Rattle.std.specs.Prelude.{ℕ, ◌-◌, ◌^◌, nat_le, nat_lt, bytes_eq, List, [], ◌∷◌, Option, Some, None, if◌then◌else◌, option_and_then, option_map, codes}
 use Rattle.rows.specs.Number.{number_of}
 use Rattle.chf_core.specs.declared.command.Command.{Command}
-use Rattle.chf_core.specs.declared.command.Command.TheVariants.{Subscriber, TopUp, Expire}
+use Rattle.chf_core.specs.declared.command.Command.TheVariants.{Subscriber, TopUp, Expire, CloseRecords}
 use Rattle.rows.specs.Pieces.{pieces}
 use Rattle.chf_rows.specs.Size.{row_size}
 use Rattle.chf_rows.specs.Setup.{name_of}
@@ -38,13 +38,19 @@ abbrev pub expire_of : List (List ℕ) → Option Command
 expire_of (moment ∷ []) = option_map (λ m. Expire m) (number_of 3155759999 moment)
 expire_of _ = None
 
+-- a row that closes records: the moment
+abbrev pub close_of : List (List ℕ) → Option Command
+close_of (moment ∷ []) = option_map (λ m. CloseRecords m) (number_of 3155759999 moment)
+close_of _ = None
+
 -- the command of a row, by its word
 abbrev pub command_in : List (List ℕ) → Option Command
 command_in [] = None
 command_in (word ∷ fields) =
     if bytes_eq word (codes "subscriber") then subscriber_of fields else
     (if bytes_eq word (codes "topup") then topup_of fields else
-    (if bytes_eq word (codes "expire") then expire_of fields else None))
+    (if bytes_eq word (codes "expire") then expire_of fields else
+    (if bytes_eq word (codes "close") then close_of fields else None)))
 
 -- the command that a row gives: its fields joined by commas have at most 1,048,576 bytes
 abbrev pub command_of : List (List ℕ) → Option Command

@@ -1,7 +1,7 @@
 //! The commands that an operator's rows give.
 ghost use Rattle.std.specs.Prelude.{◌≡◌, false, IfOk, IfSome, option_map};
 ghost use Rattle.chf_core.specs.After.{is_setup};
-ghost use Rattle.chf_rows.specs.OperatorRow.{amount_of, command_in, command_of, expire_of, groups_in, groups_of, subscriber_of, topup_of};
+ghost use Rattle.chf_rows.specs.OperatorRow.{amount_of, close_of, command_in, command_of, expire_of, groups_in, groups_of, subscriber_of, topup_of};
 ghost use Rattle.rows.specs.Pieces.{pieces};
 
 use crate::fields::name;
@@ -96,6 +96,18 @@ fn expire(fields: &[Text]) -> Option<Command>
     }
 }
 
+fn close(fields: &[Text]) -> Option<Command>
+    ensures value { result ≡ close_of fields.now }
+    ensures later { IfSome result (λ c. is_setup c ≡ false) }
+{
+    match fields {
+        [moment] => Some(Command::CloseRecords {
+            moment: Moment::new(number(Moment::LAST, moment.as_str().as_bytes())?)?,
+        }),
+        _ => None,
+    }
+}
+
 fn command_in(alloc: Global, fields: &[Text]) -> Result<Option<Command>, OutOfMemory>
     ensures value { IfOk result (λ o. o ≡ command_in fields.now) }
     ensures later { IfOk result (λ o. IfSome o (λ c. is_setup c ≡ false)) }
@@ -104,6 +116,7 @@ fn command_in(alloc: Global, fields: &[Text]) -> Result<Option<Command>, OutOfMe
         [word, rest @ ..] if word.as_str() == "subscriber" => subscriber(alloc, rest),
         [word, rest @ ..] if word.as_str() == "topup" => topup(rest),
         [word, rest @ ..] if word.as_str() == "expire" => Ok(expire(rest)),
+        [word, rest @ ..] if word.as_str() == "close" => Ok(close(rest)),
         _ => Ok(None),
     }
 }

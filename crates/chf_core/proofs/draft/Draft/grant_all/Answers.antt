@@ -6,7 +6,7 @@ pub loop-a-init : goal.loop-a-init
 loop-a-init c =
     granting_begins
     (rating_by c.args.tariffs.now c.args.grace c.args.barred.now) c.args.t c.args.stamp c.args.accounts.now.state
-    c.args.asks.now c.args.self.now c.new-told.result c.new-told.ensures c.requires.holds c.requires.clear
+    c.args.asks.now c.args.self.now c.in_ok-told.told c.in_ok-told.ensures c.requires.holds c.requires.clear
 
 pub loop-a-preserved : goal.loop-a-preserved
 loop-a-preserved c =
