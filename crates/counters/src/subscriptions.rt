@@ -17,12 +17,14 @@ pub struct Subscriptions {
 }
 
 impl Model for Subscriptions {
-    ghost use Rattle.std.specs.Prelude.{◌-◌, vec_len, vec_capacity};
+    ghost use Rattle.std.specs.Prelude.{◌-◌, ◌^◌, ◌<◌, vec_len, vec_capacity};
     ghost use Rattle.counters.specs.Subscriptions.{Kept};
 
     ghost Value = { Kept };
 
     ghost view = { λ s. record { contexts = s.contexts.items; spare = vec_capacity s.contexts - vec_len s.contexts } };
+
+    ghost invariant = { λ s. vec_len s.contexts < 2 ^ 32 };
 }
 
 impl Subscriptions {
@@ -46,7 +48,6 @@ impl Subscriptions {
 
     /// How many were ever made.
     pub fn made(&self) -> u32
-        requires { length self.now.contexts < 2 ^ 32 }
         ensures { result ≡ length self.now.contexts }
     {
         self.contexts.len() as u32

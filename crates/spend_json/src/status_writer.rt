@@ -46,11 +46,10 @@ fn put_status(out: &mut ObjectWriter, status: &SpendStatus) -> Result<(), AllocE
     out.end_object()
 }
 
-/// A spending limit status as a body: compact, the keys ascending. Its counters ascend by the bytes of their names, each
-/// once. A status in the ranges of its format reads back as the same status.
+/// A spending limit status as a body: compact, the keys ascending where its counters ascend by the bytes of their names, each
+/// once; the members stand in the order of the counters. A status in the ranges of its format reads back as the same status.
 pub fn write_status(alloc: Global, status: &SpendStatus) -> Result<List<u8>, OutOfMemory>
-    requires { IsTrue (do_ascend (infos_fields status.now.infos)) }
-    ensures text { IfOk result (λ b. b ≡ compact_text (status_data status.now)) }
+    ensures text { IsTrue (do_ascend (infos_fields status.now.infos)) → IfOk result (λ b. b ≡ compact_text (status_data status.now)) }
     ensures reads_back { FitsStatus status.now → IfOk result (λ b. status_in b ≡ Ok status.now) }
 {
     written_values_read_back();
