@@ -14,12 +14,13 @@ import http_messages
 import messages
 import records
 import reports
+import spending
 import times
 
 FOLDER = Path(__file__).resolve().parents[2] / "crates" / "acceptance"
 TABLES = (
-    "time stamp request reply element length once record meter quota events many-events sending devices door link clock loopback"
-    " journal file-disk http-request http-response http-cuts serving").split()
+    "time stamp request reply spend-context spend-status counters element length once record meter quota events many-events sending devices"
+    " door link clock loopback journal file-disk http-request http-response http-cuts serving").split()
 OPERATIONS = dict(C="create", U="update", R="release")
 
 
@@ -52,7 +53,7 @@ def reply(status, location, body):
 MODELS = {
     "time": time, "stamp": stamp, "request": request, "reply": reply, "element": elements.element,
     "length": elements.length, "record": records.answers.get, "meter": reports.meter, "sending": charging_trigger.row,
-    "http-request": http_messages.requests, "http-response": http_messages.responses, "http-cuts": http_messages.cuts}
+    **spending.MODELS, "http-request": http_messages.requests, "http-response": http_messages.responses, "http-cuts": http_messages.cuts}
 
 
 def main():

@@ -17,6 +17,7 @@ mod messages;
 mod quota_steps;
 mod reports;
 mod sending;
+mod spending;
 mod times;
 mod values;
 
@@ -30,11 +31,14 @@ use units::OutOfMemory;
 const INPUT_LIMIT: usize = 1 << 24;
 
 /// The tables, by the words that begin their lines.
-const TABLES: [&str; 24] = [
+const TABLES: [&str; 27] = [
     "time",
     "stamp",
     "request",
     "reply",
+    "spend-context",
+    "spend-status",
+    "counters",
     "element",
     "length",
     "once",
@@ -68,6 +72,9 @@ fn answer_of_texts(
         ("stamp", [octets]) => times::stamp(alloc, octets)?,
         ("request", [operation, body]) => messages::request(alloc, operation, body)?,
         ("reply", [status, location, body]) => messages::reply(alloc, status, location, body)?,
+        ("spend-context", [body]) => spending::context(alloc, body)?,
+        ("spend-status", [body]) => spending::status(alloc, body)?,
+        ("counters", [rows, steps]) => spending::counters(alloc, rows, steps)?,
         ("element", [octets]) => elements::element(alloc, octets)?,
         ("length", [count]) => elements::length(alloc, count)?,
         ("once", [octets]) => elements::once(alloc, octets)?,

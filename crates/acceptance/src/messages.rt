@@ -6,8 +6,8 @@ use charging_json::{
 use std::alloc::Global;
 use units::{JsonRefusal, Operation, OutOfMemory, Reply, name_of_cause};
 
-// A word, and the field of a refusal that names one.
-fn refused(alloc: Global, word: &str, refusal: &JsonRefusal) -> Result<String, OutOfMemory> {
+/// A word, and the field of a refusal that names one.
+pub fn refused(alloc: Global, word: &str, refusal: &JsonRefusal) -> Result<String, OutOfMemory> {
     let mut text = String::from_str(alloc, word)?;
     if let JsonRefusal::Missing { field } | JsonRefusal::Wrong { field } = refusal {
         text.push_str(" ")?;
@@ -46,7 +46,8 @@ pub fn request(alloc: Global, operation: &str, body: &str) -> Result<String, Out
     Ok(text)
 }
 
-fn word_of(refusal: &JsonRefusal) -> &'static str {
+/// The word of a refusal.
+pub fn word_of(refusal: &JsonRefusal) -> &'static str {
     match refusal {
         JsonRefusal::NotJson => "NotJson",
         JsonRefusal::Missing { .. } => "Missing",
