@@ -5,11 +5,11 @@ ghost use Rattle.edge.specs.Faults.{CountRose};
 ghost use Rattle.edge.specs.StoredImages.{none_told};
 
 use crate::disk::{Disk, DiskRefusal};
-use crate::epoch_text::{EpochText, epoch_in};
+use crate::epoch_file::{EpochFile, sync_folder};
 use crate::traits::{Counted, Failed};
 use std::alloc::{AllocError, Global};
 use std::fs::{OpenFile, OpenOptions};
-use std::io::{ErrorKind, Read, Seek, SeekFrom, Write};
+use std::io::{Read, Seek, SeekFrom, Write};
 use std::rt::Files;
 use units::OutOfMemory;
 
@@ -21,9 +21,7 @@ use units::OutOfMemory;
 pub struct FileDisk<R: Files + Drop> {
     files: R,
     bytes: Option<R::File>,
-    epoch_path: String,
-    next_path: String,
-    folder: String,
+    epoch: EpochFile<R>,
     count: u64,
 }
 
@@ -36,12 +34,11 @@ impl<R: Files + Drop> FileDisk<R> {
     {
         let folder = folder_of(alloc, path)?;
         let bytes = opened(&files, path, folder.as_str());
+        let epoch = EpochFile::new(alloc, path, folder)?;
         Ok(FileDisk {
             files,
             bytes,
-            epoch_path: format!(in alloc; "{path}.epoch")?,
-            next_path: format!(in alloc; "{path}.epoch.next")?,
-            folder,
+            epoch,
             count: 0,
         })
     }
@@ -70,13 +67,6 @@ fn opened<R: Files>(files: &R, path: &str, folder: &str) -> Option<R::File> {
     file.sync_all().ok()?;
     sync_folder(files, folder)?;
     Some(file)
-}
-
-// Makes what was made or renamed in a folder durable.
-fn sync_folder<R: Files>(files: &R, folder: &str) -> Option<()> {
-    let mut how = OpenOptions::new();
-    how.read(true);
-    how.open(files, folder).ok()?.sync_all().ok()
 }
 
 // Reads from a place until the buffer is full or the file ends.
@@ -109,44 +99,6 @@ fn length_of<F: Seek>(file: &mut F) -> Option<u64> {
     file.seek(SeekFrom::End(0)).ok()
 }
 
-// The epoch in the file of this path, 0 where there is none. It is read at once: what is cut short is no epoch.
-fn stored_epoch<R: Files>(files: &R, path: &str) -> Option<u64> {
-    let mut how = OpenOptions::new();
-    how.read(true);
-    match how.open(files, path) {
-        Ok(mut file) => {
-            let mut text = [0; 24];
-            let count = file.read(&mut text).ok()?;
-            epoch_in(&text[..count])
-        }
-        Err(error) => {
-            if error.kind() == ErrorKind::NotFound {
-                Some(0)
-            } else {
-                None
-            }
-        }
-    }
-}
-
-// Puts an epoch in the place of the old one, in one step: written beside it, synced, renamed, and the folder synced.
-fn store_epoch<R: Files>(
-    files: &R,
-    next: &str,
-    path: &str,
-    folder: &str,
-    epoch: u64,
-) -> Option<()> {
-    let text = EpochText::new(epoch);
-    let mut how = OpenOptions::new();
-    how.write(true).create(true).truncate(true);
-    let mut file = how.open(files, next).ok()?;
-    file.write_all(text.bytes()).ok()?;
-    file.sync_all().ok()?;
-    files.rename(next, path).ok()?;
-    sync_folder(files, folder)
-}
-
 // What a file answered: nothing is a fault.
 fn counted<T: Drop>(count: &mut u64, answer: Option<T>) -> Result<T, Failed>
     ensures later { count.old ≤ count.new }
@@ -168,7 +120,7 @@ impl<R: Files + Drop> FileDisk<R> {
         ensures later { self.old.count ≤ self.new.count }
         ensures rose { OnErr result (CountRose self.old.count self.new.count) }
     {
-        let answer = stored_epoch(&self.files, self.epoch_path.as_str());
+        let answer = self.epoch.stored(&self.files);
         counted(&mut self.count, answer)
     }
 }
@@ -241,13 +193,7 @@ impl<R: Files + Drop> Disk for FileDisk<R> {
         if epoch <= seen {
             return Err(DiskRefusal::Fenced(seen));
         }
-        let answer = store_epoch(
-            &self.files,
-            self.next_path.as_str(),
-            self.epoch_path.as_str(),
-            self.folder.as_str(),
-            epoch,
-        );
+        let answer = self.epoch.store(&self.files, epoch);
         Ok(counted(&mut self.count, answer)?)
     }
 }

@@ -11,6 +11,7 @@ mod disk;
 mod disk_script;
 mod disk_store;
 mod door;
+mod epoch_file;
 mod epoch_text;
 mod file_disk;
 mod link;

@@ -1,5 +1,5 @@
 -- The lists that the images of a disk stand for; no word here is about bytes to those who use it (this product's own).
-use Rattle.std.specs.Prelude.{◌≡◌, ◌≤◌, ◌+◌, ℕ, List, ◌++◌, length, take, Option, Some}
+use Rattle.std.specs.Prelude.{◌≡◌, ◌≤◌, ◌+◌, ◌⊎◌, ℕ, List, [], ◌∷◌, ◌++◌, length, take, Option, Some}
 use Rattle.journal.specs.Bytes.{front, Spells, StandsFor}
 use Rattle.journal.specs.State.{State}
 
@@ -25,3 +25,15 @@ pub record IsTied (journal : State) (content : Option (List ℕ)) (epoch : Optio
 -- each image stands for a list that begins with this one
 abbrev pub EachBeginsWith : Option ℕ → (List ℕ → Type 0) → List (List ℕ) → Type 0
 EachBeginsWith epoch images list = EachStandsFor epoch images (λ l. (more : List (List ℕ)) × (l ≡ list ++ more))
+
+-- Each image stands for a list that an image stood for before, with entries behind it of which Added tells.
+pub record Grows (epoch : Option ℕ) (images : List ℕ → Type 0) (epoch_now : Option ℕ) (images_now : List ℕ → Type 0) (Added : List (List ℕ) → List (List ℕ) → Type 0) : Type 0 where
+  pub each : EachStandsFor epoch_now images_now (λ list. (before : List (List ℕ)) × (more : List (List ℕ)) × MayStandFor epoch images before × Added before more × (list ≡ before ++ more))
+
+-- no entry comes behind any list
+abbrev pub AddsNothing : List (List ℕ) → List (List ℕ) → Type 0
+AddsNothing before more = more ≡ []
+
+-- none, or this entry behind this list
+abbrev pub MayAdd : List (List ℕ) → List ℕ → List (List ℕ) → List (List ℕ) → Type 0
+MayAdd list entry before more = (more ≡ []) ⊎ ((more ≡ entry ∷ []) × (before ≡ list))

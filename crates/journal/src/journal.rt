@@ -2,7 +2,7 @@
 ghost use Rattle.std.specs.Prelude.{◌≡◌, ◌<◌, ◌≤◌, ◌+◌, ◌-◌, ◌^◌, ◌++◌, ◌∷◌, [], ⊤, List, ℕ, length, take, drop, IfErr, OnOk, OnErr, IsErr, IsErrOf, IsTrue, true, false, Some, is_some, Err};
 ghost use Rattle.std.specs.Int.{w32, to_be_bytes};
 ghost use Rattle.edge.specs.Faults.{CountRose};
-ghost use Rattle.edge.specs.Disk.{Room, KeepsRoom};
+ghost use Rattle.edge.specs.Disk.{KeepsImages, Room, KeepsRoom};
 ghost use Rattle.journal.specs.Bytes.{sized, StandsFor};
 ghost use Rattle.journal.specs.Lists.{EachStandsFor, Extends, IsTied};
 ghost use Rattle.journal.specs.State.{State, grown};
@@ -108,6 +108,9 @@ impl Journal {
         ensures refused { IfErr result (RefusesEntry (D.told_epoch disk.old) (D.faults disk.old) (D.faults disk.new) self.old self.new disk.old disk.new (length payload.now + 5)) }
         ensures full { self.old.limit < self.old.length + (length payload.now + 5) → result ≡ Err (JournalRefusal.Full self.old.length (length payload.now + 5)) }
         ensures fenced { (e : ℕ) → D.told_epoch disk.old ≡ Some e → self.old.epoch < e → IsErr result }
+
+        // Under an epoch that the disk refuses nothing comes to any image.
+        ensures kept { (e : ℕ) → D.told_epoch disk.old ≡ Some e → self.old.epoch < e → KeepsImages (D.is_image disk.old) (D.is_image disk.new) }
 
         ensures epoch { D.told_epoch disk.new ≡ D.told_epoch disk.old }
         ensures tells { is_some (D.content disk.new) ≡ is_some (D.content disk.old) }

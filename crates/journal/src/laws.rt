@@ -1,7 +1,9 @@
 //! What holds of all lists on a disk: how calls of a journal come together to those of a node.
-ghost use Rattle.std.specs.Prelude.{◌+◌, ◌++◌, ⊤, List, ℕ, length};
+ghost use Rattle.std.specs.Prelude.{◌≡◌, ◌<◌, ◌+◌, ◌++◌, ◌∷◌, [], ⊤, List, ℕ, length, Some};
+ghost use Rattle.edge.specs.Disk.{KeepsImages};
 ghost use Rattle.journal.specs.Laws.{NoPlace, OneList, OnePlace};
-ghost use Rattle.journal.specs.Lists.{EachBeginsWith, EachStandsFor, Extends};
+ghost use Rattle.journal.specs.Lists.{AddsNothing, EachBeginsWith, EachStandsFor, Extends, Grows, IsTied, MayAdd};
+ghost use Rattle.journal.specs.State.{State};
 
 use edge::Disk;
 
@@ -33,4 +35,17 @@ pub fn extensions_compose<D: Disk>()
     ensures beginnings { (before after : D) (added : List (List ℕ)) (least : ℕ) (list : List (List ℕ))
         → Extends (D.told_epoch before) (D.is_image before) (D.told_epoch after) (D.is_image after) added least
         → EachBeginsWith (D.told_epoch before) (D.is_image before) list → EachBeginsWith (D.told_epoch after) (D.is_image after) list }
+{}
+
+/// Laws of a call; it does nothing. A call that adds no entry adds none behind any list; an append at a journal that is tied
+/// to the disk by a list adds its entry behind that list alone (this product's own).
+pub fn entries_go_behind<D: Disk>()
+    ensures nothing { (before after : D) → Extends (D.told_epoch before) (D.is_image before) (D.told_epoch after) (D.is_image after) [] 0
+        → Grows (D.told_epoch before) (D.is_image before) (D.told_epoch after) (D.is_image after) AddsNothing }
+    ensures entry { (before after : D) (journal : State) (list : List (List ℕ)) (payload : List ℕ)
+        → IsTied journal (D.content before) (D.told_epoch before) (D.is_image before) list
+        → ((e : ℕ) → D.told_epoch before ≡ Some e → journal.epoch < e → KeepsImages (D.is_image before) (D.is_image after))
+        → D.told_epoch after ≡ D.told_epoch before
+        → Extends (D.told_epoch before) (D.is_image before) (D.told_epoch after) (D.is_image after) (payload ∷ []) 0
+        → Grows (D.told_epoch before) (D.is_image before) (D.told_epoch after) (D.is_image after) (MayAdd list payload) }
 {}

@@ -14,6 +14,9 @@ mod refusal;
 mod starting;
 
 pub use journal::Journal;
-pub use laws::{bytes_are_no_journal_at_one_place, bytes_stand_for_one_list, extensions_compose};
+pub use laws::{
+    bytes_are_no_journal_at_one_place, bytes_stand_for_one_list, entries_go_behind,
+    extensions_compose,
+};
 pub use reading::view;
 pub use refusal::JournalRefusal;

@@ -1,5 +1,5 @@
 //! A journal opened on a disk, which is made there where none was.
-ghost use Rattle.std.specs.Prelude.{◌≡◌, ◌<◌, ◌≤◌, ◌+◌, ◌-◌, ◌^◌, [], ⊤, List as Listed, ℕ, length, IfErr, IfOk, OnOk, IsErr, Some, is_some, true};
+ghost use Rattle.std.specs.Prelude.{◌≡◌, ◌<◌, ◌≤◌, ◌+◌, ◌-◌, ◌^◌, [], ⊤, List as Listed, ℕ, length, IfErr, IfOk, OnOk, IsErr, Some, is_some, true, false};
 ghost use Rattle.edge.specs.Disk.{KeepsImages, Room, KeepsRoom};
 ghost use Rattle.journal.specs.Bytes.{StandsFor};
 ghost use Rattle.journal.specs.Reads.{IsNoJournal};
@@ -46,6 +46,7 @@ fn own_epoch<D: Disk>(disk: &mut D, found: u64, claim: bool) -> Result<u64, Jour
     ensures value { IfOk result (λ n. n ≡ epoch_after claim found) }
     ensures refused { IfErr result (RefusesEpoch (D.told_epoch disk.old) claim found (D.faults disk.old) (D.faults disk.new)) }
     ensures spent { 2 ^ 63 - 1 ≤ found → claim ≡ true → IsErr result }
+    ensures unclaimed { claim ≡ false → D.told_epoch disk.new ≡ D.told_epoch disk.old }
     ensures tells_epoch { is_some (D.told_epoch disk.new) ≡ is_some (D.told_epoch disk.old) }
     ensures same { OnOk result (D.content disk.new ≡ D.content disk.old) }
     ensures tells { is_some (D.content disk.new) ≡ is_some (D.content disk.old) }
@@ -94,6 +95,7 @@ impl Journal {
         ensures epoch { (e : ℕ) → D.told_epoch disk.old ≡ Some e → IfOk result (λ r. r.0.epoch ≡ epoch_after claim e) }
         ensures owns { IfOk result (λ r. (e : ℕ) → D.told_epoch disk.new ≡ Some e → e ≡ r.0.epoch) }
         ensures limit { IfOk result (λ r. r.0.limit ≡ limit) }
+        ensures unclaimed { claim ≡ false → (e : ℕ) → D.told_epoch disk.old ≡ Some e → 1 ≤ e → D.told_epoch disk.new ≡ D.told_epoch disk.old }
         ensures sound { IfOk result (λ r. r.0.is_sound ≡ true) }
 
         ensures no_journal { (e at : ℕ) (b : Listed ℕ) → D.told_epoch disk.old ≡ Some e → D.content disk.old ≡ Some b → 1 ≤ e → IsNoJournal b at → IsErr result }
