@@ -5,6 +5,8 @@ use Rattle.std.proofs.lemmas.List.{length-map}
 use Rattle.units.specs.declared.report.Container.{Container}
 use Rattle.smf_model.specs.declared.setup.SmfSetup.{SmfSetup}
 use Rattle.smf_model.specs.declared.session.Holding.{Holding}
+use Rattle.smf_model.specs.declared.session.GivenUp.{GivenUp}
+use Rattle.smf_model.specs.GivenUps.{given_up_of}
 use Rattle.smf_model.specs.declared.session.Session.{Session}
 use Rattle.smf_model.specs.declared.event.SmfEvent.{SmfEvent}
 use Rattle.smf_core.specs.declared.plan.Change.{Change}
@@ -26,27 +28,27 @@ left_out all at h = omega (arith, ap length h, length-places 0 all, past-count a
 pub wide-full : (b : Session) (all : List Holding) → b.holdings ≡ filter is_held all → wide all b ≡ full b all
 wide-full b all live = ap (full b) (ap (merged all) live ∙ merged-same all)
 
-made_now : (c : Change) (setup : SmfSetup) (now : ℕ) (event : SmfEvent) (b : Session) (all : List Holding) (at : List ℕ) (every some : List Container)
-    → IsKept b all at every some → IsMade c b at (length all) (finished setup now (effect_past setup (length all - length at) now event b))
+made_now : (c : Change) (setup : SmfSetup) (now : ℕ) (event : SmfEvent) (b : Session) (all : List Holding) (at : List ℕ) (every some : List Container) (given : List GivenUp)
+    → IsKept b all at every some given → IsMade c b at (length all) (finished setup now (effect_past setup (length all - length at) now event b))
     → IsMade c b at (length all) (finished setup now (effect_past setup (past_count all) now event b))
-made_now c setup now event b all at every some k m =
+made_now c setup now event b all at every some given k m =
     subst (λ n. IsMade c b at (length all) (finished setup now (effect_past setup n now event b))) (left_out all at k.places) m
 
-pub made : (c : Change) (setup : SmfSetup) (now : ℕ) (event : SmfEvent) (b : Session) (all : List Holding) (at : List ℕ) (every some : List Container)
-    → IsKept b all at every some → IsMade c b at (length all) (finished setup now (effect_past setup (length all - length at) now event b))
+pub made : (c : Change) (setup : SmfSetup) (now : ℕ) (event : SmfEvent) (b : Session) (all : List Holding) (at : List ℕ) (every some : List Container) (given : List GivenUp)
+    → IsKept b all at every some given → IsMade c b at (length all) (finished setup now (effect_past setup (length all - length at) now event b))
     → changed c (full b all) ≡ finished setup now (effect setup now event (full b all))
-made c setup now event b all at every some k before =
-    let m : IsMade c b at (length all) (finished setup now (effect_past setup (past_count all) now event b)) = made_now c setup now event b all at every some k before in
+made c setup now event b all at every some given k before =
+    let m : IsMade c b at (length all) (finished setup now (effect_past setup (past_count all) now event b)) = made_now c setup now event b all at every some given k before in
     let enough : length (filter is_held all) ≤ length b.holdings = omega (arith, ap length k.live) in
     ap (wide all) m.session
     ∙ sym (next_wide_all event setup all now b enough)
     ∙ ap (λ s. finished setup now (effect setup now event s)) (wide-full b all k.live)
 
-pub fits : (c : Change) (setup : SmfSetup) (now : ℕ) (event : SmfEvent) (b : Session) (all : List Holding) (at : List ℕ) (every some : List Container)
-    → IsKept b all at every some → IsMade c b at (length all) (finished setup now (effect_past setup (length all - length at) now event b))
+pub fits : (c : Change) (setup : SmfSetup) (now : ℕ) (event : SmfEvent) (b : Session) (all : List Holding) (at : List ℕ) (every some : List Container) (given : List GivenUp)
+    → IsKept b all at every some given → IsMade c b at (length all) (finished setup now (effect_past setup (length all - length at) now event b))
     → Fits c (full b all)
-fits c setup now event b all at every some k before =
-    let m : IsMade c b at (length all) (finished setup now (effect_past setup (past_count all) now event b)) = made_now c setup now event b all at every some k before in
+fits c setup now event b all at every some given k before =
+    let m : IsMade c b at (length all) (finished setup now (effect_past setup (past_count all) now event b)) = made_now c setup now event b all at every some given k before in
     let g : GrowsByOne b.holdings (finished setup now (effect_past setup (past_count all) now event b)).holdings = grows event setup (past_count all) now b in
     let long : length c.moved ≡ length (finished setup now (effect_past setup (past_count all) now event b)).holdings = ap (λ (s : Session). length s.holdings) m.session in
     let enough : length (filter is_held all) ≤ length c.moved = omega (arith, ap length k.live, g.0, long) in
@@ -64,22 +66,23 @@ fits c setup now event b all at every some k before =
 written : (c : Change) (b : Session) (all : List Holding) (at : List ℕ) → at ≡ places_from 0 all → Fits c (full b all) → put_places at c.moved all ≡ merged all c.moved
 written c b all at h f = ap (λ ps. put_places ps c.moved all) h ∙ put-merged all c.moved f.enough
 
-pub taken : (c : Change) (b : Session) (all : List Holding) (at : List ℕ) (every some : List Container)
-    → IsKept b all at every some → Fits c (full b all)
-    → IsKept (after_change b c.course c.groups c.live c.rules c.pending) (put_places at c.moved all) c.places (put_places at c.containers every) c.held
-taken c b all at every some k f =
+pub taken : (c : Change) (b : Session) (all : List Holding) (at : List ℕ) (every some : List Container) (given next : List GivenUp)
+    → IsKept b all at every some given → Fits c (full b all) → next ≡ given_up_of (put_places at c.moved all)
+    → IsKept (after_change b c.course c.groups c.live c.rules c.pending) (put_places at c.moved all) c.places (put_places at c.containers every) c.held next
+taken c b all at every some given next k f told =
     let new : put_places at c.moved all ≡ merged all c.moved = written c b all at k.places f in
     record {
       live = f.live ∙ sym (filter-merged is_held (λ h e. e) all c.moved) ∙ ap (filter is_held) (sym new);
       places = f.places ∙ ap (places_from 0) (sym new);
       containers = ap (λ xs. put_places at xs every) f.containers ∙ ap (put_places at (containers_of c.moved)) k.containers ∙ sym (put-map (λ (h : Holding). h.container) at c.moved all);
       held = f.held;
+      given_up = told;
     }
 
-pub taken_value : (c : Change) (b : Session) (all : List Holding) (at : List ℕ) (every some : List Container)
-    → IsKept b all at every some → Fits c (full b all)
+pub taken_value : (c : Change) (b : Session) (all : List Holding) (at : List ℕ) (every some : List Container) (given : List GivenUp)
+    → IsKept b all at every some given → Fits c (full b all)
     → full (after_change b c.course c.groups c.live c.rules c.pending) (put_places at c.moved all) ≡ changed c (full b all)
-taken_value c b all at every some k f = ap (session_with c b) (written c b all at k.places f)
+taken_value c b all at every some given k f = ap (session_with c b) (written c b all at k.places f)
 
 -- as the code has it
 
@@ -98,3 +101,6 @@ room_for c b all at h f = omega (arith, f.one, ap length h, length-places 0 all)
 
 pub room_for_containers : (c : Change) (b : Session) (all : List Holding) (at : List ℕ) → at ≡ places_from 0 all → Fits c (full b all) → length c.containers ≤ length at + 1
 room_for_containers c b all at h f = omega (arith, ap length f.containers, length-map c.moved (λ (x : Holding). x.container), room_for c b all at h f)
+
+pub enough_for : (c : Change) (b : Session) (all : List Holding) → Fits c (full b all) → length (filter is_held all) ≤ length c.moved
+enough_for c b all f = f.enough

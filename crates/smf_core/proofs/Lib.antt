@@ -9,3 +9,4 @@ pub mod Nexts
 pub mod Found
 pub mod Marked
 pub mod Several
+pub mod Told

@@ -13,7 +13,7 @@ use Rattle.smf_model.specs.Machine.{touches, effect, finished, next_session, is_
 use Rattle.smf_core.proofs.Indexed.{absent}
 use Rattle.smf_core.specs.Index.{place_in, AreApart, place_for}
 use Rattle.smf_core.specs.Lookup.{subject}
-use Rattle.smf_core.specs.Caches.{KeptAs, numbers_of, sessions_of, stepped_by}
+use Rattle.smf_core.specs.Caches.{KeptAs, HasRoom, numbers_of, sessions_of, stepped_by}
 use Rattle.smf_core.specs.Plan.{map_at, IsReadyFor, IsReadyAt, Fits}
 
 -- a session at a place
@@ -44,7 +44,7 @@ map_at-alike at f g k [] within it e = refl
 map_at-alike zero f g k (x ∷ ks) within it e = let P : KeptAs → Type 0 = λ y. f y.session ∷ sessions_of ks ≡ g y.session ∷ sessions_of ks in subst P (sym it) (ap (λ s. s ∷ sessions_of ks) e)
 map_at-alike (suc at) f g k (x ∷ ks) within it e = ap (λ xs. x.session ∷ xs) (map_at-alike at f g k ks (omega arith) it e)
 
-pub ready-set : (ks : List KeptAs) (at : ℕ) (c : Change) (k old : KeptAs) → at < length ks → get_or ks at old ≡ old → k.session ≡ old.session → Fits c old.session → 0 < k.room → IsReadyAt at c (set ks at k)
+pub ready-set : (ks : List KeptAs) (at : ℕ) (c : Change) (k old : KeptAs) → at < length ks → get_or ks at old ≡ old → k.session ≡ old.session → Fits c old.session → HasRoom c k → IsReadyAt at c (set ks at k)
 ready-set [] at c k old within it e f room = absurd (omega arith)
 ready-set (x ∷ ks) zero c k old within it e f room = (subst (Fits c) (sym e) f, room)
 ready-set (x ∷ ks) (suc at) c k old within it e f room = ready-set ks at c k old (omega arith) it e f room

@@ -8,16 +8,16 @@ use Rattle.smf_core.specs.Reads.{is_held}
 use Rattle.smf_core.specs.Caches.{merged, places_from, put_places, live_after, place_at}
 use Rattle.smf_core.proofs.Merged.{past, here}
 
-at_past : (h : Holding) (i : ℕ) (all : List Holding) → is_held h ≡ false → places_from i (h ∷ all) ≡ places_from (i + 1) all
+pub at_past : (h : Holding) (i : ℕ) (all : List Holding) → is_held h ≡ false → places_from i (h ∷ all) ≡ places_from (i + 1) all
 at_past h i all e = ap (λ b. cond b (i ∷ places_from (i + 1) all) (places_from (i + 1) all)) e
 
-at_here : (h : Holding) (i : ℕ) (all : List Holding) → is_held h ≡ true → places_from i (h ∷ all) ≡ i ∷ places_from (i + 1) all
+pub at_here : (h : Holding) (i : ℕ) (all : List Holding) → is_held h ≡ true → places_from i (h ∷ all) ≡ i ∷ places_from (i + 1) all
 at_here h i all e = ap (λ b. cond b (i ∷ places_from (i + 1) all) (places_from (i + 1) all)) e
 
-held_here : (h : Holding) (all : List Holding) → is_held h ≡ true → filter is_held (h ∷ all) ≡ h ∷ filter is_held all
+pub held_here : (h : Holding) (all : List Holding) → is_held h ≡ true → filter is_held (h ∷ all) ≡ h ∷ filter is_held all
 held_here h all e = ap (λ b. cond b (h ∷ filter is_held all) (filter is_held all)) e
 
-held_past : (h : Holding) (all : List Holding) → is_held h ≡ false → filter is_held (h ∷ all) ≡ filter is_held all
+pub held_past : (h : Holding) (all : List Holding) → is_held h ≡ false → filter is_held (h ∷ all) ≡ filter is_held all
 held_past h all e = ap (λ b. cond b (h ∷ filter is_held all) (filter is_held all)) e
 
 -- there is a place for each that is held

@@ -1,12 +1,14 @@
 -- What is kept of a session for speed: only what is held is looked at as events come. Of the public clauses only those on plans name some of these.
-use Rattle.std.specs.Prelude.{◌≡◌, ℕ, ◌+◌, ◌-◌, nat_lt, if◌then◌else◌, Option, unwrap_or, List, [], ◌∷◌, ◌++◌, map, filter, length, slice_set, slice_index}
+use Rattle.std.specs.Prelude.{◌≡◌, ◌<◌, ◌≤◌, ℕ, ◌+◌, ◌-◌, nat_lt, Bool, if◌then◌else◌, Option, is_some, unwrap_or, List, [], ◌∷◌, ◌++◌, map, filter, count_by, length, slice_set, slice_index}
 use Rattle.std.specs.List.{AllByRecursion}
 use Rattle.smf_model.specs.declared.session.Holding.{Holding}
 use Rattle.smf_model.specs.declared.session.Rule.{Rule}
 use Rattle.smf_model.specs.declared.session.Session.{Session}
 use Rattle.smf_model.specs.declared.session.Entry.{Entry}
+use Rattle.smf_model.specs.declared.session.GivenUp.{GivenUp}
 use Rattle.smf_model.specs.declared.event.SmfEvent.{SmfEvent}
 use Rattle.smf_model.specs.declared.setup.SmfSetup.{SmfSetup}
+use Rattle.smf_model.specs.GivenUps.{why_in, given_up_of}
 use Rattle.smf_model.specs.Machine.{effect, finished}
 use Rattle.smf_core.specs.declared.draft.Course.{Course}
 use Rattle.smf_core.specs.declared.draft.Pending.{Pending}
@@ -55,6 +57,20 @@ live_after (p ∷ places) count (k ∷ next) = if is_held k then p ∷ live_afte
 abbrev pub place_at : List ℕ → ℕ → ℕ → ℕ
 place_at places count i = if nat_lt i (length places) then slice_index places i else count + (i - length places)
 
+-- a container is given up
+abbrev pub is_given_up : Holding → Bool
+is_given_up h = is_some (why_in h.place)
+
+-- how many are
+abbrev pub given_up_count : List Holding → ℕ
+given_up_count holdings = count_by (λ h. is_some (why_in h.place)) holdings
+
+-- the place of the first that is given up of those that take these places; where none is, how many there are in all
+abbrev pub first_given_up : List ℕ → List Holding → ℕ → ℕ
+first_given_up [] moved count = count
+first_given_up (p ∷ places) [] count = count
+first_given_up (p ∷ places) (k ∷ moved) count = if is_given_up k then p else first_given_up places moved count
+
 -- a change by its parts
 pub record HasParts (c : Change) (d : Draft) (before : List ℕ) (count : ℕ) : Type 0 where
   pub course : c.course ≡ d.course
@@ -101,16 +117,23 @@ pub record IsMade (c : Change) (before : Session) (at : List ℕ) (count : ℕ) 
   pub held : c.held ≡ containers_of c.live
 
 -- what is kept of a session is right
-pub record IsKept (s : Session) (all : List Holding) (at : List ℕ) (every some : List Container) : Type 0 where
+pub record IsKept (s : Session) (all : List Holding) (at : List ℕ) (every some : List Container) (told : List GivenUp) : Type 0 where
   pub live : s.holdings ≡ filter is_held all
   pub places : at ≡ places_from 0 all
   pub containers : every ≡ containers_of all
   pub held : some ≡ containers_of s.holdings
+  pub given_up : told ≡ given_up_of all
 
--- a session that is kept so, and for how many more containers there is a place
+-- a session that is kept so; for how many more containers there is a place, and for how many more that are given up
 pub record KeptAs : Type 0 where
   pub session : Session
   pub room : ℕ
+  pub spare : ℕ
+
+-- there is a place for the container that a change may open, and for what it gives up
+pub record HasRoom (c : Change) (k : KeptAs) : Type 0 where
+  pub one : 0 < k.room
+  pub given_up : given_up_count c.moved ≤ k.spare
 
 -- a session with all its containers
 abbrev pub full : Session → List Holding → Session

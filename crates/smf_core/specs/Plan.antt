@@ -13,7 +13,7 @@ use Rattle.smf_model.specs.declared.refusal.SmfRefusal.TheVariants.{OutOfMemory}
 use Rattle.smf_model.specs.Machine.{answer_of, step}
 use Rattle.smf_core.specs.Index.{place_in}
 use Rattle.smf_core.specs.Reads.{is_held, containers_of}
-use Rattle.smf_core.specs.Caches.{merged, places_from, session_with, KeptAs, numbers_of}
+use Rattle.smf_core.specs.Caches.{merged, places_from, session_with, KeptAs, HasRoom, numbers_of}
 use Rattle.smf_core.specs.Marking.{woken_by}
 
 -- a session as a change leaves it
@@ -66,9 +66,9 @@ pub record IsPlanOf (plan : SmfPlan) (m : Machine) (event : SmfEvent) : Type 0 w
   pub seen : answer_of m event ≡ Ok plan.seen
   pub made : applied plan m ≡ step m event
 
--- a change fits to a session, and there is a place for the container that it may open
+-- a change fits to a session, and there is a place for what it adds
 abbrev pub IsReadyFor : Change → KeptAs → Type 0
-IsReadyFor c k = Fits c k.session × (0 < k.room)
+IsReadyFor c k = Fits c k.session × HasRoom c k
 
 -- so is the change of the session at a place
 abbrev pub IsReadyAt : ℕ → Change → List KeptAs → Type 0

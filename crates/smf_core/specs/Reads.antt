@@ -8,8 +8,10 @@ use Rattle.smf_model.specs.declared.session.Place.{Place}
 use Rattle.smf_model.specs.declared.session.Place.TheVariants.{Open, Waiting, Frozen}
 use Rattle.smf_model.specs.declared.session.Holding.{Holding}
 use Rattle.smf_model.specs.declared.session.Session.{Session}
+use Rattle.smf_model.specs.declared.session.GivenUp.{GivenUp}
 use Rattle.smf_model.specs.declared.session.Peer.{Peer}
 use Rattle.smf_model.specs.Sending.{flight_of}
+use Rattle.smf_model.specs.GivenUps.{given_up_of}
 use Rattle.smf_model.specs.Machine.{gate_for, expected_of}
 
 -- the unanswered request
@@ -61,3 +63,7 @@ held_of holdings = containers_of (filter is_held holdings)
 -- those of a session, where there is one
 abbrev pub held_in : Option Session → List Container
 held_in s = held_of (holdings_in s)
+
+-- those that are given up, each with the cause
+abbrev pub given_up_in : Option Session → List GivenUp
+given_up_in s = given_up_of (holdings_in s)

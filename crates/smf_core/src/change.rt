@@ -1,9 +1,9 @@
 //! What an event changes of a session of which only what is held is kept.
-ghost use Rattle.std.specs.Prelude.{◌≡◌, ◌-◌, IfOk, length, map, filter};
+ghost use Rattle.std.specs.Prelude.{◌≡◌, ◌<◌, ◌≤◌, ◌+◌, ◌-◌, IfOk, length, map, filter, vec_len, vec_capacity};
 ghost use Rattle.smf_core.specs.Draft.{effect_past};
 ghost use Rattle.smf_model.specs.Machine.{finished};
 ghost use Rattle.smf_core.specs.Reads.{is_held, is_held_at, containers_of};
-ghost use Rattle.smf_core.specs.Caches.{live_after, place_at, IsMade, HasParts};
+ghost use Rattle.smf_core.specs.Caches.{live_after, place_at, put_places, IsMade, HasParts};
 
 use crate::draft::Draft;
 use crate::plan::Change;
@@ -69,6 +69,24 @@ fn places_after(
         }
     }
     Ok(next)
+}
+
+/// Others written at places, one after another; the one that is left comes at the end.
+pub fn put_all<T: Copy>(all: &mut Vec<T>, places: &[usize], next: &[T])
+    requires one { length next.now ≤ length places.now + 1 }
+    requires room { vec_len all.old < vec_capacity all.old }
+    ensures { all.new.items ≡ put_places places.now next.now all.old.items }
+{
+    for (at, item) in next.iter().enumerate() {
+        if at < places.len() {
+            let place = places[at];
+            if place < all.len() {
+                all[place] = *item;
+            }
+        } else {
+            all.push_reserved(*item);
+        }
+    }
 }
 
 fn change_from(

@@ -7,18 +7,22 @@ ghost use Rattle.smf_model.specs.Sending.{flight_of};
 ghost use Rattle.smf_core.specs.Reads.{is_held, containers_of, held_of};
 ghost use Rattle.smf_core.specs.Marking.{mark_of};
 ghost use Rattle.smf_core.specs.Plan.{changed, Fits};
-ghost use Rattle.smf_core.specs.Caches.{put_places, places_from, rules_left, after_change};
+ghost use Rattle.smf_core.specs.Caches.{places_from, HasRoom, rules_left, after_change};
+ghost use Rattle.smf_model.specs.GivenUps.{given_up_of};
 
-use crate::change::{change_of, containers_from, held_from, is_held_holding};
+use crate::change::{change_of, containers_from, held_from, is_held_holding, put_all};
 use crate::checks::{check_found, expected, gate};
 use crate::draft::{Course, Pending, request_left};
+use crate::giving::{given_up_count, given_up_from, retell};
 use crate::marks::mark;
 use crate::plan::Change;
 use crate::sending::in_flight;
 use crate::step::is_touched;
 use agenda::Mark;
 use quotas::Gate;
-use smf_model::{Entry, Holding, Peer, Rule, Seen, Session, SmfEvent, SmfRefusal, SmfSetup};
+use smf_model::{
+    Entry, GivenUp, Holding, Peer, Rule, Seen, Session, SmfEvent, SmfRefusal, SmfSetup,
+};
 use std::alloc::Global;
 use std::marker::Model;
 use std::mem;
@@ -32,6 +36,7 @@ pub struct Kept {
     places: List<usize>,
     containers: Vec<Container>,
     held: List<Container>,
+    given: Vec<GivenUp>,
 }
 
 impl Model for Kept {
@@ -40,27 +45,9 @@ impl Model for Kept {
 
     ghost Value = { KeptAs };
 
-    ghost view = { λ k. record { session = full k.session k.holdings.items; room = min (vec_capacity k.holdings - vec_len k.holdings) (vec_capacity k.containers - vec_len k.containers) } };
+    ghost view = { λ k. record { session = full k.session k.holdings.items; room = min (vec_capacity k.holdings - vec_len k.holdings) (vec_capacity k.containers - vec_len k.containers); spare = vec_capacity k.given - vec_len k.given } };
 
-    ghost invariant = { λ k. IsKept k.session k.holdings.items k.places k.containers.items k.held };
-}
-
-// Others written at places, one after another; the one that is left comes at the end.
-fn put_all<T: Copy>(all: &mut Vec<T>, places: &[usize], next: &[T])
-    requires one { length next.now ≤ length places.now + 1 }
-    requires room { vec_len all.old < vec_capacity all.old }
-    ensures { all.new.items ≡ put_places places.now next.now all.old.items }
-{
-    for (at, item) in next.iter().enumerate() {
-        if at < places.len() {
-            let place = places[at];
-            if place < all.len() {
-                all[place] = *item;
-            }
-        } else {
-            all.push_reserved(*item);
-        }
-    }
+    ghost invariant = { λ k. IsKept k.session k.holdings.items k.places k.containers.items k.held k.given.items };
 }
 
 // The place of each container that is held.
@@ -116,6 +103,7 @@ impl Kept {
         let places = places_of(alloc, session.holdings.as_slice())?;
         let containers = containers_from(alloc, session.holdings.as_slice())?;
         let held = containers_from(alloc, &live)?;
+        let given = given_up_from(alloc, session.holdings.as_slice())?;
         let holdings = mem::replace(&mut session.holdings, List::from_vec(live));
         Ok(Kept {
             session,
@@ -123,6 +111,7 @@ impl Kept {
             places,
             containers,
             held: List::from_vec(held),
+            given,
         })
     }
 
@@ -166,8 +155,8 @@ impl Kept {
         is_touched(event, &self.session)
     }
 
-    /// What an event makes of it, and room for that.
-    pub fn change(
+    // What an event makes of it, and room for the container that it may open.
+    fn change_held(
         &mut self,
         alloc: Global,
         setup: &SmfSetup,
@@ -193,10 +182,38 @@ impl Kept {
         )
     }
 
+    // Room for so many more that are given up.
+    fn make_spare(&mut self, more: usize) -> Result<(), OutOfMemory>
+        ensures same { self.new.session ≡ self.old.session }
+        ensures room { self.new.room ≡ self.old.room }
+        ensures spare { OnOk result (more ≤ self.new.spare) }
+    {
+        self.given.reserve(more)?;
+        Ok(())
+    }
+
+    /// What an event makes of it, and room for that.
+    pub fn change(
+        &mut self,
+        alloc: Global,
+        setup: &SmfSetup,
+        now: Moment,
+        event: &SmfEvent,
+    ) -> Result<Change, OutOfMemory>
+        ensures made { IfOk result (λ c. changed c self.old.session ≡ finished setup.now now (effect setup.now now event.now self.old.session)) }
+        ensures fits { IfOk result (λ c. Fits c self.old.session) }
+        ensures same { self.new.session ≡ self.old.session }
+        ensures room { IfOk result (λ c. HasRoom c self.new) }
+    {
+        let change = self.change_held(alloc, setup, now, event)?;
+        self.make_spare(given_up_count(change.moved.as_slice()))?;
+        Ok(change)
+    }
+
     /// Takes a change that was made for it; it takes no memory.
     pub fn take(&mut self, change: Change)
         requires fits { Fits change self.old.session }
-        requires room { 0 < self.old.room }
+        requires room { HasRoom change self.old }
         ensures { self.new.session ≡ changed change self.old.session }
     {
         let Change {
@@ -210,7 +227,12 @@ impl Kept {
             rules,
             pending,
         } = change;
-        put_all(&mut self.holdings, self.places.as_slice(), moved.as_slice());
+        retell(
+            &mut self.given,
+            &mut self.holdings,
+            self.places.as_slice(),
+            moved.as_slice(),
+        );
         put_all(
             &mut self.containers,
             self.places.as_slice(),
@@ -242,13 +264,6 @@ impl Kept {
         expected(&self.session, group)
     }
 
-    /// Its containers with what closed each and where it is, in order of their numbers.
-    pub fn holdings(&self) -> &[Holding]
-        ensures { result.now ≡ self.now.session.holdings }
-    {
-        self.holdings.as_slice()
-    }
-
     /// Its containers, in order of their numbers.
     pub fn containers(&self) -> &[Container]
         ensures { result.now ≡ containers_of self.now.session.holdings }
@@ -261,5 +276,12 @@ impl Kept {
         ensures { result.now ≡ held_of self.now.session.holdings }
     {
         self.held.as_slice()
+    }
+
+    /// Those that are given up, in order of their numbers, each with the cause.
+    pub fn given_up(&self) -> &[GivenUp]
+        ensures { result.now ≡ given_up_of self.now.session.holdings }
+    {
+        self.given.as_slice()
     }
 }

@@ -6,7 +6,8 @@
 //! How it is kept: each session keeps beside all its containers those that are held, with their places, and an
 //! event works on these alone, through a `Draft`, which makes a `Change` that `Kept::take` writes without memory.
 //! `merged` (`specs/Caches`) says how the held ones stand for the whole session; each function of an event goes
-//! through it. What sends next is read from an agenda of the sessions' marks (`specs/Marking`), which `commit` sets
+//! through it. What is given up stands in a list of its own, which a change makes anew from the first container on
+//! that it gives up (`giving`). What sends next is read from an agenda of the sessions' marks (`specs/Marking`), which `commit` sets
 //! anew where a session changes or waits no more. A restart looks at those in flight alone, a tick at those whose
 //! rest ends (`resting`).
 //!
@@ -15,6 +16,7 @@
 //! case in the proofs `Wide` and `Lengths`.
 #![tactic(auto)]
 
+mod adding;
 mod answers;
 mod asking;
 mod categories;
@@ -25,6 +27,7 @@ mod counting;
 mod draft;
 mod ending;
 mod freeze;
+mod giving;
 mod index;
 mod kept;
 mod marks;
@@ -40,4 +43,4 @@ mod step;
 
 pub use plan::SmfPlan;
 pub use smf::Smf;
-pub use smf_model::{Holding, Peer, Place, Seen, SmfEvent, SmfRefusal, SmfSetup, Why};
+pub use smf_model::{GivenUp, Peer, Seen, SmfEvent, SmfRefusal, SmfSetup, Why};

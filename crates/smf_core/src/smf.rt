@@ -1,26 +1,26 @@
 //! The machine: an event is planned, and then committed.
-ghost use Rattle.std.specs.Prelude.{◌≡◌, ◌<◌, ◌≤◌, ◌-◌, ◌++◌, [], IfOk, IfErr, OnOk, min, map, option_map, length, slice_get, vec_len, vec_capacity};
+ghost use Rattle.std.specs.Prelude.{◌≡◌, ◌<◌, ◌≤◌, IfOk, IfErr, OnOk, map, option_map, slice_get};
 ghost use Rattle.std.specs.Option.{option_copied};
 ghost use Rattle.smf_model.specs.declared.refusal.Seen.TheVariants.{New, Known as AlreadyKnown};
-ghost use Rattle.smf_model.specs.Machine.{answer_of, added_by, any_flies, empty, now_after, session_of, stepped};
+ghost use Rattle.smf_model.specs.Machine.{answer_of, any_flies, empty, now_after, session_of, stepped};
 ghost use Rattle.smf_core.specs.Lookup.{session_for, next_for, flies_for};
 ghost use Rattle.smf_model.specs.Sending.{send_of};
-ghost use Rattle.smf_core.specs.Reads.{request_in, flight_in, gate_at, expected_at, containers_in, held_in, holdings_in};
-ghost use Rattle.smf_core.specs.Plan.{added_in, applied, AddedIsReady, IsPlanOf, IsReady, IsRefused, NextIsReady, Takes};
+ghost use Rattle.smf_core.specs.Reads.{request_in, flight_in, gate_at, expected_at, containers_in, held_in, given_up_in};
+ghost use Rattle.smf_core.specs.Plan.{applied, AddedIsReady, IsPlanOf, IsReady, IsRefused, NextIsReady, Takes};
 ghost use Rattle.agenda.specs.Marks.{places_from};
-ghost use Rattle.smf_core.specs.Caches.{sessions_of, AreAtRest, IsTied};
 ghost use Rattle.smf_core.specs.Marking.{looked_at, marks_of, woken_by};
 
+use crate::adding::{add, added_kept};
 use crate::checks::{check_missing, subject};
 use crate::index::Index;
 use crate::kept::Kept;
 use crate::marks::wake;
 use crate::next::{next_turns, take_next};
 use crate::plan::{Next, SmfPlan};
-use crate::step::{added_session, moment_after};
+use crate::step::moment_after;
 use agenda::{Agenda, Search};
 use quotas::Gate;
-use smf_model::{Holding, Peer, Seen, SmfEvent, SmfRefusal, SmfSetup, copy_setup, sessions_rest};
+use smf_model::{GivenUp, Peer, Seen, SmfEvent, SmfRefusal, SmfSetup, copy_setup, sessions_rest};
 use std::alloc::Global;
 use std::marker::Model;
 use units::{Container, List, Moment, OutOfMemory, Request};
@@ -29,46 +29,6 @@ fn kept_at(sessions: &[Kept], at: usize) -> Option<&Kept>
     ensures { option_copied result ≡ slice_get sessions.now at }
 {
     sessions.get(at)
-}
-
-// What is kept of the session that an event adds.
-fn added_kept(
-    alloc: Global,
-    setup: &SmfSetup,
-    now: Moment,
-    event: &SmfEvent,
-) -> Result<Option<Kept>, OutOfMemory>
-    ensures { IfOk result (λ r. added_in r ≡ added_by setup.now now event.now) }
-{
-    match added_session(alloc, setup, now, event)? {
-        None => Ok(None),
-        Some(session) => {
-            let kept = Kept::of(alloc, session)?;
-            Ok(Some(kept))
-        }
-    }
-}
-
-// The session that is added takes its place.
-fn add(
-    index: &mut Index,
-    agenda: &mut Agenda,
-    setup: &SmfSetup,
-    now: Moment,
-    sessions: &mut Vec<Kept>,
-    added: Option<Kept>,
-)
-    requires rest { AreAtRest setup.now (added_in added) }
-    requires tied { IsTied setup.now index.old.numbers agenda.old.marks now (sessions_of sessions.old.items) }
-    requires ready { AddedIsReady added (sessions_of sessions.old.items) (min (vec_capacity sessions.old - vec_len sessions.old) (min index.old.room agenda.old.room)) }
-    ensures tied { IsTied setup.now index.new.numbers agenda.new.marks now (sessions_of sessions.new.items) }
-    ensures sessions { sessions_of sessions.new.items ≡ sessions_of sessions.old.items ++ added_in added }
-{
-    if let Some(kept) = added {
-        index.add(kept.number());
-        agenda.add(kept.mark(setup, now));
-        sessions.push_reserved(kept);
-    }
 }
 
 /// The machine of an SMF's charging trigger function (TS 32.255, 5.2.1; TS 32.290, 5.3.2).
@@ -398,17 +358,6 @@ impl Smf {
         }
     }
 
-    /// The containers of a session in order of their numbers, each with what closed it and when, and where it is: one that is given up has
-    /// the cause of that; empty for an unknown session.
-    pub fn holdings(&self, session: u32) -> &[Holding]
-        ensures { result.now ≡ holdings_in (session_of session self.now.machine.sessions) }
-    {
-        match self.found(Some(session)) {
-            None => &[],
-            Some(kept) => kept.holdings(),
-        }
-    }
-
     /// The containers of a session, in order of their numbers; empty for an unknown session.
     pub fn containers(&self, session: u32) -> &[Container]
         ensures { result.now ≡ containers_in (session_of session self.now.machine.sessions) }
@@ -426,6 +375,16 @@ impl Smf {
         match self.found(Some(session)) {
             None => &[],
             Some(kept) => kept.held(),
+        }
+    }
+
+    /// Those that are given up, each once with the cause, in order of their numbers; empty for an unknown session.
+    pub fn given_up(&self, session: u32) -> &[GivenUp]
+        ensures { result.now ≡ given_up_in (session_of session self.now.machine.sessions) }
+    {
+        match self.found(Some(session)) {
+            None => &[],
+            Some(kept) => kept.given_up(),
         }
     }
 }

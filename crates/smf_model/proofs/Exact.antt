@@ -24,6 +24,7 @@ use Rattle.smf_model.specs.Trace.{trace, unanswered}
 use Rattle.smf_model.specs.Places.{why_of, place_by}
 use Rattle.smf_model.specs.Exact.{IsAsked, IsPlacedExactly, ArePlacedExactly}
 use Rattle.smf_model.specs.Apart.{is_lost}
+use Rattle.smf_model.specs.GivenUps.{why_in}
 use Rattle.smf_model.proofs.TraceLaws.{uses_settled, unclosed_unused, NewestBy, newest_by, unanswered_asked, once, given_apart, lost_given}
 use Rattle.smf_model.proofs.Placed.{IsAt, placed_by, unclosed_by, is_waiting_by}
 use Rattle.smf_model.proofs.Lifting.{With}
@@ -66,14 +67,6 @@ answered_by_place (Some c) (Some g) x y e = cc
 answered_by_place (Some c) None true y e = cc
 answered_by_place (Some c) None false true e = cc
 answered_by_place (Some c) None false false e = refl
-
--- what a place is given up for
-abbrev why_in : Place → Option Why
-why_in Open = None
-why_in Waiting = None
-why_in Frozen = None
-why_in Answered = None
-why_in (GivenUp why) = Some why
 
 abbrev cause_of : Why → Cause
 cause_of IsNotSent = WasNotSent

@@ -43,3 +43,4 @@ pub mod Resting
 pub mod Counts
 pub mod Once
 pub mod LatestRules
+pub mod Told

@@ -41,12 +41,12 @@ found P next lsn (h ∷ hs) order each l m = ⊎_elim
     record { holding = rest.holding; number = rest.number; fact = rest.fact })
     (cases_eq next lsn)
 
-abbrev cause_of : Why → Cause
+abbrev pub cause_of : Why → Cause
 cause_of IsNotSent = WasNotSent
 cause_of IsHeldFull = HeldFull
 cause_of IsRefused = WasRefused
 
-same_why : (why : Why) → why_of (cause_of why) ≡ why
+pub same_why : (why : Why) → why_of (cause_of why) ≡ why
 same_why IsNotSent = refl
 same_why IsHeldFull = refl
 same_why IsRefused = refl

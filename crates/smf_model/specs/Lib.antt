@@ -34,3 +34,4 @@ pub mod Counts
 pub mod Once
 pub mod LatestRules
 pub mod Still
+pub mod GivenUps

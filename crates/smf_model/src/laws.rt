@@ -17,6 +17,7 @@ ghost use Rattle.smf_model.specs.Flights.{IsStep, Begins, Flies, IsGivenUp};
 ghost use Rattle.smf_model.specs.Places.{StandsAsMoved};
 ghost use Rattle.smf_model.specs.Exact.{ArePlacedExactly};
 ghost use Rattle.smf_model.specs.Among.{StandAmong};
+ghost use Rattle.smf_model.specs.GivenUps.{GivesUpAsMoved};
 ghost use Rattle.smf_model.specs.History.{history};
 ghost use Rattle.smf_model.specs.LatestRules.{rules_in, RulesAreLatest};
 ghost use Rattle.smf_model.specs.Once.{EachStandsOnce, IsGivenUpFor};
@@ -83,6 +84,12 @@ pub fn places_by_moves()
 pub fn containers_stand_once()
     ensures places { (setup : SmfSetup) (events : List SmfEvent) (number : ℕ) → EachStandsOnce (trace setup events number) (session_of number (machine_after setup events).sessions) }
     ensures causes { (setup : SmfSetup) (events : List SmfEvent) (number lsn : ℕ) → IsGivenUpFor (trace setup events number) lsn }
+{}
+
+/// A law of events; it does nothing. After any events what is told as given up of a session is, of its containers, exactly those that its moves
+/// give up, each once with the cause that they say, in ascending order of their numbers (this product's own).
+pub fn giving_up_is_told()
+    ensures { (setup : SmfSetup) (events : List SmfEvent) (number : ℕ) → GivesUpAsMoved (trace setup events number) (session_of number (machine_after setup events).sessions) }
 {}
 
 /// A law of events; it does nothing. After any events each container that the moves of a session close is among its containers, and no number

@@ -21,12 +21,14 @@ pub use event::SmfEvent;
 pub use laws::{
     answers_are_final, attempts_begin, attempts_end, closes_are_its_own, containers_are_cuts,
     containers_stand_once, ended_sessions_hold_nothing, ends_are_still, entries_are_counted,
-    few_wait, gates_stay_closed, given_up_unsent, moves_may_follow, nothing_is_left,
-    oldest_are_given_up, places_by_moves, places_go_on, quotas_by_steps, replies_are_caused,
-    reports_are_in_order, requests_are_apart, requests_are_named, requests_are_of_subscriber,
-    requests_hold, requests_in_order, requests_stand, rules_are_latest, sending_by_moves,
-    sessions_rest, settles_once,
+    few_wait, gates_stay_closed, given_up_unsent, giving_up_is_told, moves_may_follow,
+    nothing_is_left, oldest_are_given_up, places_by_moves, places_go_on, quotas_by_steps,
+    replies_are_caused, reports_are_in_order, requests_are_apart, requests_are_named,
+    requests_are_of_subscriber, requests_hold, requests_in_order, requests_stand, rules_are_latest,
+    sending_by_moves, sessions_rest, settles_once,
 };
 pub use refusal::{Seen, SmfRefusal};
-pub use session::{Entry, Holding, Life, Loss, Machine, Peer, Place, Rule, Sending, Session, Why};
+pub use session::{
+    Entry, GivenUp, Holding, Life, Loss, Machine, Peer, Place, Rule, Sending, Session, Why,
+};
 pub use setup::{SmfSetup, copy_setup};

@@ -82,6 +82,13 @@ pub struct Holding {
     pub place: Place,
 }
 
+/// A container that is given up, and why (this product's own).
+#[derive(Clone, Copy, PartialEq, Eq, Debug)]
+pub struct GivenUp {
+    pub container: Container,
+    pub why: Why,
+}
+
 /// A rating group of a session: the number of its next report, its quota, and how far its tariff is known not to switch.
 #[derive(Clone, Copy, Debug)]
 pub struct Entry {

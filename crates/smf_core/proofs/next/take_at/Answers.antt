@@ -1,5 +1,5 @@
 use Rattle.std.proofs.Common.{◌∙◌, ◌<◌, set, sym, ap, subst, arith}
-use Rattle.smf_core.specs.Caches.{KeptAs, sessions_of}
+use Rattle.smf_core.specs.Caches.{KeptAs, HasRoom, sessions_of}
 use Rattle.smf_core.specs.Marking.{marks_of}
 use Rattle.smf_core.specs.Plan.{changed, Fits}
 use Rattle.smf_core.proofs.Marked.{marks_set}
@@ -12,7 +12,7 @@ take-requires-clause-fits c =
 
 pub take-requires-clause-room : goal.take-requires-clause-room
 take-requires-clause-room c =
-    subst (λ (x : KeptAs). 0 < x.room) c.index-sessions-at.is (ready-at c.args.sessions.now c.args.at c.args.change c.index-sessions-at.result c.requires.ready (sym c.index-sessions-at.is)).1
+    subst (λ (x : KeptAs). HasRoom c.args.change x) c.index-sessions-at.is (ready-at c.args.sessions.now c.args.at c.args.change c.index-sessions-at.result c.requires.ready (sym c.index-sessions-at.is)).1
 
 pub returns-then-at-sessions-clause-value : goal.returns-then-at-sessions-clause-value
 returns-then-at-sessions-clause-value c = absurd (omega (arith, ready-within c.args.sessions.now c.args.at c.args.change c.requires.ready, c.if-at-sessions.true))

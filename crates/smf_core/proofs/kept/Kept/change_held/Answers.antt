@@ -3,7 +3,7 @@ use Rattle.smf_core.specs.Caches.{KeptAs, full}
 use Rattle.smf_model.specs.Machine.{finished, effect}
 use Rattle.smf_core.specs.Plan.{changed, Fits}
 use Rattle.smf_core.proofs.KeptRight.{if_ok, with_places, made, fits}
-use Rattle.smf_core.proofs.kept.Kept.change.Goals as goal
+use Rattle.smf_core.proofs.kept.Kept.change_held.Goals as goal
 
 pub returns-clause-made : goal.returns-clause-made
 returns-clause-made c =
@@ -12,7 +12,7 @@ returns-clause-made c =
     let count : c.len.result ≡ length k.holdings.items = omega (arith, c.len.ensures, c.reserve.ensures.len, k.holdings.ok.0) in
     if_ok c.change_of.result _ _ (λ x m.
     subst (λ s. changed x s ≡ finished c.args.setup.now c.args.now (effect c.args.setup.now c.args.now c.args.event.now s)) seen
-    (made x c.args.setup.now c.args.now c.args.event.now k.session k.holdings.items k.places k.containers.items k.held c.self.invariant
+    (made x c.args.setup.now c.args.now c.args.event.now k.session k.holdings.items k.places k.containers.items k.held k.given.items c.self.invariant
     (with_places x c.args.setup.now c.args.now c.args.event.now k.session c.as_slice-places.result.now k.places c.len.result (length k.holdings.items) c.as_slice-places.ensures count m)))
     c.change_of.ensures
 
@@ -23,6 +23,6 @@ returns-clause-fits c =
     let count : c.len.result ≡ length k.holdings.items = omega (arith, c.len.ensures, c.reserve.ensures.len, k.holdings.ok.0) in
     if_ok c.change_of.result _ _ (λ x m.
     subst (λ s. Fits x s) seen
-    (fits x c.args.setup.now c.args.now c.args.event.now k.session k.holdings.items k.places k.containers.items k.held c.self.invariant
+    (fits x c.args.setup.now c.args.now c.args.event.now k.session k.holdings.items k.places k.containers.items k.held k.given.items c.self.invariant
     (with_places x c.args.setup.now c.args.now c.args.event.now k.session c.as_slice-places.result.now k.places c.len.result (length k.holdings.items) c.as_slice-places.ensures count m)))
     c.change_of.ensures

@@ -1,6 +1,6 @@
 use Rattle.std.proofs.Common.{◌≡◌, ◌≤◌, drop, length, vec_len, vec_capacity}
 use Rattle.smf_core.specs.Caches.{put_places}
-use Rattle.smf_core.proofs.kept.put_all.Given as goal
+use Rattle.smf_core.proofs.change.put_all.Given as goal
 
 abbrev pub invariant-loop-at : goal.invariant-loop-at
 invariant-loop-at g l = record {
