@@ -13,6 +13,7 @@ mod elements;
 mod events;
 mod hosting;
 mod http;
+mod lists;
 mod messages;
 mod quota_steps;
 mod reports;
@@ -31,7 +32,7 @@ use units::OutOfMemory;
 const INPUT_LIMIT: usize = 1 << 24;
 
 /// The tables, by the words that begin their lines.
-const TABLES: [&str; 27] = [
+const TABLES: [&str; 28] = [
     "time",
     "stamp",
     "request",
@@ -55,6 +56,7 @@ const TABLES: [&str; 27] = [
     "loopback",
     "journal",
     "file-disk",
+    "durable",
     "http-request",
     "http-response",
     "http-cuts",
@@ -122,6 +124,9 @@ fn answer_of_devices(
         ("loopback", [case]) => connections::loopback(rt, alloc, case)?,
         ("journal", [limit, payload]) => disks::journal(alloc, limit, payload)?,
         ("file-disk", [name]) => disks::file_disk(rt, alloc, name)?,
+        ("durable", [claims, limit, fails, steps]) => {
+            lists::lists(alloc, claims, limit, fails, steps)?
+        }
         _ => return Ok(None),
     };
     Ok(Some(answer))

@@ -1,0 +1,7 @@
+use Rattle.acceptance.proofs.lists.show.Goals as goal
+
+pub returns-in-Ok : goal.returns-in-Ok
+returns-in-Ok g c = record { held = (c.requires.held.0, c.show_own.ensures.kept c.requires.held.0 c.requires.held.1) }
+
+pub returns-in-Err : goal.returns-in-Err
+returns-in-Err g c = record { held = (c.requires.held.0, c.show_own.ensures.kept c.requires.held.0 c.requires.held.1) }
