@@ -8,3 +8,4 @@ pub mod Shortest
 pub mod Nodes
 pub mod Measured
 pub mod Putting
+pub mod Split

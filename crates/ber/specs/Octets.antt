@@ -33,3 +33,12 @@ length_at (first ∷ rest) =
     else (if first == 255 then None
     else (if nat_lt (length rest) (first - 128) then None
     else option_and_then (λ n. Some (Some n, drop (first - 128) rest)) (value_at 0 (take (first - 128) rest)))))
+
+-- The contents octets of a definite length, and what follows; none where it is indefinite, or goes past the octets that are there (X.690 8.1.3.2).
+abbrev pub definite_at : Option ℕ × List ℕ → Option (List ℕ × List ℕ)
+definite_at x = option_and_then (λ n. if nat_lt (length x.1) n then None else Some (take n x.1, drop n x.1)) x.0
+
+-- The contents octets behind one identifier octet and a definite length, and what follows; none where another element stands here (X.690 8.1.1).
+abbrev pub contents_at : ℕ → List ℕ → Option (List ℕ × List ℕ)
+contents_at identifier [] = None
+contents_at identifier (first ∷ rest) = if first == identifier then option_and_then definite_at (length_at rest) else None

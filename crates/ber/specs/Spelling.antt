@@ -45,6 +45,10 @@ IsLength (first ∷ octets) n = ((first < 128) × (octets ≡ []) × (n ≡ firs
 abbrev pub IsFramed : List ℕ → ℕ → List ℕ → Type 0
 IsFramed front n back = (IsLength front n × (back ≡ [])) ⊎ ((front ≡ 128 ∷ []) × (back ≡ 0 ∷ 0 ∷ []))
 
+-- One identifier octet, a definite length and contents octets, which others follow (X.690 8.1.1).
+abbrev pub IsSplit : ℕ → List ℕ → List ℕ → List ℕ → Type 0
+IsSplit identifier bytes contents rest = (front : List ℕ) × IsLength front (length contents) × (bytes ≡ identifier ∷ (front ++ (contents ++ rest)))
+
 abbrev mutual
   -- The octets of an element behind its identifier, with at most so many elements within each other (X.690 8.1.1; primitive ones have definite lengths, 8.1.3.2).
   pub SpellsInside : ℕ → List ℕ → Element → Type 0

@@ -96,3 +96,11 @@ pub fn read_tlv(alloc: Global, bytes: &[u8]) -> Result<(Tlv, usize), BerRefusal>
 pub fn prefix_free()
     ensures { (a b x y : List ℕ) (d e : Element) → length (a ++ x) < 2 ^ 63 → Spells 16 a d → Spells 16 b e → a ++ x ≡ b ++ y → (a ≡ b) × (d ≡ e) }
 {}
+
+/// What is spelled as an element that a grammar admits from a state is read as that element, whatever follows: a law for
+/// proofs, which does nothing (X.690 8.1).
+pub fn spelled_are_read<G: Grammar>(grammar: G)
+    ensures { (bytes : List ℕ) (e : Element) (n : ℕ) → length bytes < 2 ^ 63 → n ≤ length bytes → Spells 16 (take n bytes) e → Admits G.rules grammar e → element_at G.rules grammar bytes ≡ Ok (e, n) }
+{
+    let _state = grammar;
+}

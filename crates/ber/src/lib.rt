@@ -8,9 +8,10 @@
 //!
 //! How it is built: what is read stands on a `Tape`, one list of nodes in order of their first octets, each with how
 //! many nodes behind it are within it; so reading takes memory only where the tape must grow. A `TlvRef` and a `Row`
-//! are views of a tape, and contracts see them as the elements that they are (`specs/Tape`). Writing finds out all
-//! lengths first (`measuring`) and then fills one buffer, without a second place for the contents of any element. A
-//! `BackwardWriter` takes elements without a tree, the last one first.
+//! are views of a tape, and contracts see them as the elements that they are (`specs/Tape`). `split_element` takes an
+//! element of a definite length from the front without a tape, for a reader that knows what comes next. Writing finds
+//! out all lengths first (`measuring`) and then fills one buffer, without a second place for the contents of any
+//! element. A `BackwardWriter` takes elements without a tree, the last one first.
 //!
 //! Where a rule goes: on identifier and length octets into `specs/Spelling` (what is meant), `specs/Octets` (how it
 //! is read) and `identifier` or `length`; on positions into `specs/Reading` and `reading`, which alone knows them;
@@ -29,6 +30,7 @@ mod node;
 mod placing;
 mod reading;
 mod refusal;
+mod splitting;
 mod tag;
 mod tape;
 mod tlv;
@@ -37,10 +39,11 @@ mod writing;
 
 pub use anything::Anything;
 pub use backward::BackwardWriter;
-pub use element::{prefix_free, read, read_tlv};
+pub use element::{prefix_free, read, read_tlv, spelled_are_read};
 pub use grammar::{Grammar, Step};
 pub use length::value;
 pub use refusal::BerRefusal;
+pub use splitting::split_element;
 pub use tag::Tag;
 pub use tape::Tape;
 pub use tlv::{Body, Tlv, constructed, primitive};

@@ -1,5 +1,5 @@
 -- A list is held still where another claims a greater epoch.
-use Rattle.std.proofs.Common.{◌≡◌, ◌≤◌, ℕ, zero, suc, List, Option, Some, sym, ◌∙◌, subst, arith}
+use Rattle.std.proofs.Common.{◌≡◌, ◌≤◌, ℕ, zero, suc, List, Option, Some, None, is_some, refl, sym, true≢false, ap, ◌∙◌, subst, arith}
 use Rattle.journal.specs.Bytes.{StandsFor}
 use Rattle.journal.specs.Lists.{EachBeginsWith, IsTied}
 use Rattle.journal.specs.State.{State as Journal}
@@ -30,6 +30,9 @@ tied_later journal b d n f i k own list tied same kept rises = record {
   each = λ e c told le im. let r = rises e told in tied.each r.0 c r.1 (omega (arith, r.2, le)) (kept c im);
 }
 
+one_epoch : (a b : ℕ) → Some a ≡ Some b → a ≡ b
+one_epoch a b e = cc
+
 pub others : (held : State) (b d : Option (List ℕ)) (n f : Option ℕ) (i k : List ℕ → Type 0) (list : List (List ℕ)) → IsHeld held b n i list → d ≡ b → ((c : List ℕ) → k c → i c)
     → ((e : ℕ) → f ≡ Some e → (a : ℕ) × (n ≡ Some a) × (a ≤ e)) → ((c : List ℕ) → k c → (e : ℕ) × (f ≡ Some e)) → IsHeld held d f k list
 others held b d n f i k list is same kept rises told = record {
@@ -39,3 +42,8 @@ others held b d n f i k list is same kept rises told = record {
   claimed = λ e t. let r = rises e t in let own : held.own ≤ r.0 = is.claimed r.0 r.1 in omega (arith, own, r.2);
   same = λ journal e stands t. let r = rises e t in is.same journal r.0 stands r.1;
 }
+
+-- an epoch that is told still was told before
+pub rises : (n f : Option ℕ) → is_some f ≡ is_some n → ((a : ℕ) → n ≡ Some a → (e : ℕ) × (f ≡ Some e) × (a ≤ e)) → (e : ℕ) → f ≡ Some e → (a : ℕ) × (n ≡ Some a) × (a ≤ e)
+rises None f tells grown e told = absurd (true≢false (sym (ap is_some told) ∙ tells))
+rises (Some a) f tells grown e told = let w = grown a refl in (a, refl, subst (λ x. a ≤ x) (one_epoch w.0 e (sym w.1 ∙ told)) w.2)

@@ -12,6 +12,7 @@ pub fn others_may_claim<D: Disk>()
     ensures { (before after : D) (held : State) (list : List (List ℕ))
         → IsHeld held (D.content before) (D.told_epoch before) (D.is_image before) list
         → D.content after ≡ D.content before → KeepsImages (D.is_image before) (D.is_image after)
-        → ((e : ℕ) → D.told_epoch after ≡ Some e → (earlier : ℕ) × (D.told_epoch before ≡ Some earlier) × (earlier ≤ e))
+        → is_some (D.told_epoch after) ≡ is_some (D.told_epoch before)
+        → ((e : ℕ) → D.told_epoch before ≡ Some e → (later : ℕ) × (D.told_epoch after ≡ Some later) × (e ≤ later))
         → IsHeld held (D.content after) (D.told_epoch after) (D.is_image after) list }
 {}

@@ -1,11 +1,11 @@
 -- How many records that are not closed have a container, where one session changes or begins, and where all are closed.
-use Rattle.std.proofs.Common.{◌≡◌, ℕ, zero, suc, ◌+◌, ◌-◌, ◌<◌, ◌≤◌, cond, ltb, Bool, true, false, List, [], ◌∷◌, ◌++◌, length, get_or, set, Option, Some, None, sum_by, refl, sym, ap, ◌∙◌, arith}
+use Rattle.std.proofs.Common.{◌≡◌, ℕ, zero, suc, ◌+◌, ◌<◌, ◌≤◌, cond, ltb, Bool, true, false, List, [], ◌∷◌, length, get_or, set, Option, Some, None, refl, ap, arith}
 use Rattle.std.proofs.lemmas.List.{length-append}
 use Rattle.std.proofs.lemmas.List.Sums.{sum_by-cons}
 use Rattle.records.specs.declared.record.Kept.{Kept}
 use Rattle.records.specs.declared.session.SessionKept.{SessionKept}
-use Rattle.records.specs.Closing.{has_container, opened}
-use Rattle.records.specs.Book.{Session, Records, closable_in, closable, entered, with_open, settled, sweeping, swept, all_swept}
+use Rattle.records.specs.Closing.{has_container}
+use Rattle.records.specs.Book.{Session, closable_in, closable, entered, with_open, settled, swept, all_swept}
 use Rattle.records.specs.Seen.{session_seen, sessions_seen, numbers_of}
 
 of : SessionKept → ℕ

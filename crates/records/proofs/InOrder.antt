@@ -11,7 +11,7 @@ use Rattle.records.specs.declared.record.Kept.{Kept}
 use Rattle.records.specs.declared.filing.Filing.{Filing}
 use Rattle.records.specs.declared.filing.Filing.TheVariants.{Begun, Added, Ended, ClosedAll}
 use Rattle.records.specs.Usage.{with_entry, with_usage}
-use Rattle.records.specs.Closing.{opened, with_added, closed_as, next_of}
+use Rattle.records.specs.Closing.{opened, with_added, closed_as}
 use Rattle.records.specs.Book.{Session, Records, session_of, open_in, open_of, entered, with_open, reopened, and_closed, cause_of, settled, added, ended, sweeping, swept, all_swept, with_one, after, records_after}
 use Rattle.records.specs.Once.{MayCome}
 use Rattle.records.specs.InOrder.{closed_usages, open_usages, usages_of, entries_by, entries_of, AreDivided, ContainersInOrder}

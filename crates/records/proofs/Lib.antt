@@ -18,3 +18,4 @@ pub mod Converting
 pub mod Integers
 pub mod Admitted
 pub mod ReadBack
+pub mod Ascending

@@ -11,4 +11,5 @@ pub mod Fields
 pub mod Written
 pub mod Grammar
 pub mod Reading
+pub mod Ordered
 pub mod Fitting

@@ -12,12 +12,14 @@
 //! How it is built: a record that is not closed (`unclosed`) keeps its containers by rating group (`group`), so that
 //! closing takes no memory, and its sums (`sums`), so that no call walks them; `make_room` takes all memory before. What a
 //! book keeps beside its records is in `specs/Seen`, what a record that is not closed keeps in `specs/Groups`. Reading is
-//! `ber`'s reader under the grammar of `place`, and then a function of the tree (`reading`); it knows no positions. Writing
-//! makes no tree: fields go from the last to the first into `ber`'s `BackwardWriter` (`writing`).
+//! `ber`'s reader under the grammar of `place`, and then a function of the tree (`reading`); it knows no positions. A record
+//! whose fields ascend, all known and of definite lengths, as this product writes them, is read in one pass without a
+//! tree (`ordered`). Writing makes no tree: fields go from the last to the first into `ber`'s `BackwardWriter`
+//! (`writing`).
 //!
 //! Where a rule goes: a limit or a cause into `specs/Closing` and `unclosed`; what comes to a book into `Filing`,
 //! `specs/Book` and a call of `Book`; a field into `specs/Written` and `writing`, `specs/Grammar` and `place`,
-//! `specs/Reading` and `reading`.
+//! `specs/Reading` and `reading`, `specs/Ordered` and `ordered`.
 #![tactic(auto)]
 
 mod book;
@@ -29,6 +31,7 @@ mod group;
 mod grouping;
 mod laws;
 mod limits;
+mod ordered;
 mod place;
 mod reading;
 mod record;

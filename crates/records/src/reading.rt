@@ -7,6 +7,7 @@ ghost use Rattle.records.specs.Reading.{number_in, text_in, moment_in, elements_
 ghost use Rattle.records.specs.Usage.{unit_usage};
 
 use crate::contents::{counted, is_known, is_tag, moment, number, small, words};
+use crate::ordered::ordered;
 use crate::place::Place;
 use crate::record::Record;
 use ber::{BerRefusal, Row, Tape, TlvRef};
@@ -374,7 +375,6 @@ fn all(alloc: Global, bytes: &[u8]) -> Result<(Record, usize, u32), BerRefusal>
     ensures found { IfOk result (λ x. (x.1 ≤ length bytes.now) × SpellsRecord (take x.1 bytes.now) (x.0, x.2)) }
     ensures only { (r : RecordSeen) (n unknown : ℕ) → n ≤ length bytes.now → SpellsRecord (take n bytes.now) (r, unknown) → Gives {Y = RecordSeen × ℕ × ℕ} (λ x. x) result (Ok (r, n, unknown)) }
 {
-    // Most records have at most 64 elements.
     let mut tape = Tape::with_places(alloc, 64)?;
     let (tlv, count) = ber::read(&mut tape, Place::Start, bytes)?;
     let (record, unknown) = made(alloc, &tlv)?;
@@ -392,5 +392,8 @@ pub fn read_record(alloc: Global, bytes: &[u8]) -> Result<(Record, usize, u32), 
     // What is spelled so is read, unless memory is wanting.
     ensures only { (r : RecordSeen) (n unknown : ℕ) → n ≤ length bytes.now → SpellsRecord (take n bytes.now) (r, unknown) → Gives {Y = RecordSeen × ℕ × ℕ} (λ x. x) result (Ok (r, n, unknown)) }
 {
-    all(alloc, bytes)
+    match ordered(alloc, bytes) {
+        Some((record, count)) => Ok((record, count, 0)),
+        None => all(alloc, bytes),
+    }
 }
