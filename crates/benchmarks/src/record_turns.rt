@@ -121,26 +121,29 @@ fn two_sessions(alloc: Global, limit: u64) -> Result<Book, OutOfMemory> {
     Ok(book)
 }
 
-// Adds that many containers to the sessions of a new book, and counts the records that were closed.
-fn added_containers(alloc: Global, count: u64, limit: u64) -> Result<u64, OutOfMemory> {
+// A new book, to whose sessions that many containers were added.
+fn filled_book(alloc: Global, count: u64, limit: u64) -> Result<Book, OutOfMemory> {
     let mut book = two_sessions(alloc, limit)?;
     for number in 0..count {
         let session = (number % 2) as u32 + 1;
         let used = entries(alloc, number)?;
         book.make_room(session, used.as_slice())?;
         if book.closed().len() >= 4_000_000_000 {
-            return Ok(0);
+            return Ok(book);
         }
         book.add(session, used, Moment::first(), false);
     }
-    Ok(book.closed().len() as u64)
+    Ok(book)
 }
 
-// The same, for so many books one after another.
-fn added_to_books(alloc: Global, count: u64, limit: u64, books: u64) -> Result<u64, OutOfMemory> {
+// So many new books, which all stay, each with that many containers: how many records of theirs were closed.
+fn filled_books(alloc: Global, count: u64, limit: u64, books: u64) -> Result<u64, OutOfMemory> {
+    let mut filled = Vec::new(alloc);
     let mut closed = 0u64;
     for _ in 0..books {
-        closed = closed.saturating_add(added_containers(alloc, count, limit)?);
+        let book = filled_book(alloc, count, limit)?;
+        closed = closed.saturating_add(book.closed().len() as u64);
+        filled.push(book)?;
     }
     Ok(closed)
 }
@@ -157,7 +160,7 @@ pub fn record_turns(
         ("records-read", [count]) => read_records(alloc, *count).map(Some),
         ("records-write", [count]) => written_records(alloc, *count).map(Some),
         ("records-add", [count, limit, books]) => {
-            added_to_books(alloc, *count, *limit, *books).map(Some)
+            filled_books(alloc, *count, *limit, *books).map(Some)
         }
         _ => Ok(None),
     }
