@@ -28,7 +28,7 @@ use crate::moment_turns::{copied_texts, read_texts, written_texts};
 use crate::quota_turns::turns_of_use;
 use crate::rating_turns::prices;
 use crate::record_turns::record_turns;
-use crate::smf_turns::{meter_turns, smf_times, smf_turns};
+use crate::smf_turns::{meter_turns, smf_times, smf_turns, tick_time};
 use crate::table_turns::table_turns;
 use crate::wire_turns::{parsed_fronts, parsed_heads, read_messages};
 use edge::StreamSource;
@@ -115,6 +115,17 @@ fn print_times(rt: &HostRuntime, times: Option<[u128; 3]>) -> io::Result<ExitCod
     }
 }
 
+// The time of turns, by the clock.
+fn print_time(rt: &HostRuntime, time: Option<u128>) -> io::Result<ExitCode> {
+    match time {
+        Some(time) => {
+            println!(rt; "{time}")?;
+            Ok(ExitCode::SUCCESS)
+        }
+        None => Ok(ExitCode::from(9)),
+    }
+}
+
 // What a turn of a journal answered, where there is such a turn and the disk did not refuse it.
 fn journal(rt: &HostRuntime, call: &str, numbers: &[u64]) -> io::Result<Option<u64>> {
     match (call, numbers) {
@@ -143,6 +154,9 @@ fn run(rt: &HostRuntime) -> io::Result<ExitCode> {
         }
         ("smf-times", [sessions, turns]) => {
             return print_times(rt, smf_times(rt, *sessions, *turns)?);
+        }
+        ("smf-ticks", [sessions, count]) => {
+            return print_time(rt, tick_time(rt, *sessions, *count)?);
         }
         _ => {}
     }

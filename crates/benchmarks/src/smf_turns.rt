@@ -204,6 +204,28 @@ pub fn smf_times(rt: &HostRuntime, sessions: u64, turns: u64) -> io::Result<Opti
     Ok(Some([first.as_nanos(), all.as_nanos(), end.as_nanos()]))
 }
 
+// That many ticks, each a second after the one before.
+fn ticks(alloc: Global, smf: &mut Smf, count: u64) -> Result<(), OutOfMemory> {
+    for second in 0..count {
+        step(alloc, smf, &SmfEvent::Tick { moment: at(second) })?;
+    }
+    Ok(())
+}
+
+/// The nanoseconds of that many ticks over that many sessions in which nothing is due.
+pub fn tick_time(rt: &HostRuntime, sessions: u64, count: u64) -> io::Result<Option<u128>> {
+    let alloc = rt.alloc();
+    let Ok(mut smf) = attached(alloc, small(sessions)) else {
+        return Ok(None);
+    };
+    let begun = Instant::now(rt)?;
+    if ticks(alloc, &mut smf, count).is_err() {
+        return Ok(None);
+    }
+    let all = begun.elapsed(rt)?;
+    Ok(Some(all.as_nanos()))
+}
+
 // A meter for each session.
 fn meters(alloc: Global, sessions: u32) -> Result<Vec<Meter>, OutOfMemory> {
     let mut meters = Vec::new(alloc);
