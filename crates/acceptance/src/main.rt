@@ -20,6 +20,7 @@ mod reports;
 mod sending;
 mod spending;
 mod times;
+mod trigger_rows;
 mod values;
 
 use edge::{StreamSource, read_all};
@@ -32,7 +33,7 @@ use units::OutOfMemory;
 const INPUT_LIMIT: usize = 1 << 24;
 
 /// The tables, by the words that begin their lines.
-const TABLES: [&str; 28] = [
+const TABLES: [&str; 30] = [
     "time",
     "stamp",
     "request",
@@ -49,6 +50,8 @@ const TABLES: [&str; 28] = [
     "events",
     "many-events",
     "sending",
+    "smf-row",
+    "event-row",
     "devices",
     "door",
     "link",
@@ -98,6 +101,8 @@ fn answer_of_machines(
         ("events", [events]) => events::events(alloc, false, events)?,
         ("many-events", [events]) => events::events(alloc, true, events)?,
         ("sending", [setup, events]) => sending::sending(alloc, setup, events)?,
+        ("smf-row", [row]) => trigger_rows::smf_row(alloc, row)?,
+        ("event-row", [row]) => trigger_rows::event_row(alloc, row)?,
         _ => return Ok(None),
     };
     Ok(Some(answer))

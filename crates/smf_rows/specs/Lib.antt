@@ -1,0 +1,2 @@
+pub mod SetupRow
+pub mod EventRow
