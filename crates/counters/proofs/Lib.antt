@@ -7,3 +7,4 @@ mod Steps
 mod Kept
 mod Marks
 mod Turns
+mod Shown

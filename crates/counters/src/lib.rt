@@ -15,6 +15,7 @@
 #![tactic(auto)]
 
 mod counters;
+mod laws;
 mod refusal;
 mod row;
 mod search;
@@ -23,5 +24,6 @@ mod table;
 mod watching;
 
 pub use counters::Counters;
+pub use laws::statuses_ascend;
 pub use refusal::CounterRefusal;
 pub use subscriptions::Subscriptions;
