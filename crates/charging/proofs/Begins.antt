@@ -2,9 +2,7 @@
 use Rattle.std.proofs.Common.{◌≡◌, ◌≢◌, ◌+◌, ◌==◌, ℕ, false, arith, Option, Some, None, Result, Ok, Err}
 use Rattle.std.proofs.lemmas.Bool.Decides.{nat_tests}
 use Rattle.units.specs.declared.reply.Reply.{Reply}
-use Rattle.units.specs.declared.request.Request.{Request}
 use Rattle.chf_core.specs.declared.command.Command.{Command}
-use Rattle.chf_core.specs.declared.command.Command.TheVariants.{Charge}
 use Rattle.chf_core.specs.declared.decision.Verdict.{Verdict}
 use Rattle.chf_core.specs.declared.decision.Verdict.TheVariants.{Kept, Known, Refused, Fresh}
 use Rattle.chf_core.specs.State.{State}
@@ -14,7 +12,7 @@ use Rattle.chf_rows.specs.OperatorRow.{command_of}
 use Rattle.charging.specs.declared.item.Item.{Item}
 use Rattle.charging.specs.declared.item.Item.TheVariants.{Blank, Row, Message, Bad}
 use Rattle.charging.specs.Answering.{after_command, after_item, after_message, decided}
-use Rattle.charging.specs.Routing.{request_at}
+use Rattle.charging.specs.Routing.{command_at}
 
 -- a number that was counted up is not 0
 one_more : (n : ℕ) → (n + 1 == 0) ≡ false
@@ -33,13 +31,13 @@ command_goes_on : (s : State) (c : Option Command) → (s.count == 0) ≡ false 
 command_goes_on s None e = e
 command_goes_on s (Some c) e = decided_goes_on s c (decision s c) e
 
-message_goes_on : (s : State) (m : Result Request Reply) → (s.count == 0) ≡ false → ((after_message s m).count == 0) ≡ false
+message_goes_on : (s : State) (m : Result Command Reply) → (s.count == 0) ≡ false → ((after_message s m).count == 0) ≡ false
 message_goes_on s (Err reply) e = e
-message_goes_on s (Ok q) e = decided_goes_on s (Charge q) (decision s (Charge q)) e
+message_goes_on s (Ok c) e = decided_goes_on s c (decision s c) e
 
 -- after each item there are commands, where there were some before
 pub goes_on : (s : State) (item : Item) → (s.count == 0) ≡ false → ((after_item s item).count == 0) ≡ false
 goes_on s Blank e = e
 goes_on s Bad e = e
 goes_on s (Row fields) e = command_goes_on s (command_of fields) e
-goes_on s (Message method path body) e = message_goes_on s (request_at method path body) e
+goes_on s (Message method path body) e = message_goes_on s (command_at method path body) e

@@ -7,6 +7,7 @@ pub mod OneRow
 pub mod PlainLines
 pub mod PlainPieces
 pub mod Begins
+pub mod Ascends
 pub mod Begun
 pub mod NamesInOrder
 pub mod ClapFaults

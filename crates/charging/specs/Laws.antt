@@ -1,12 +1,13 @@
--- That no message is left without a reply (this product's own).
-use Rattle.std.specs.Prelude.{◌≡◌, true, is_some, List, Result}
-use Rattle.units.specs.declared.reply.Reply.{Reply}
-use Rattle.units.specs.declared.request.Request.{Request}
+-- That no message is left without a response (this product's own).
+use Rattle.std.specs.Prelude.{◌≡◌, ℕ, true, is_some, List}
 use Rattle.chf_core.specs.declared.command.Command.{Command}
 use Rattle.chf_core.specs.After.{state_of}
-use Rattle.charging.specs.Answering.{message_reply}
+use Rattle.charging.specs.declared.item.Method.{Method}
+use Rattle.charging.specs.Answering.{message_response}
+use Rattle.charging.specs.Routing.{command_at}
 
--- Whatever commands were accepted before it, a message has a reply, and so its line.
+-- Whatever commands were accepted before it, a message has a response, and so its line.
 abbrev pub EachMessageIsAnswered : Type 0
 EachMessageIsAnswered =
-    (commands : List Command) (request : Result Request Reply) → is_some (message_reply (state_of commands) request) ≡ true
+    (commands : List Command) (method : Method) (path body : List ℕ)
+    → is_some (message_response (state_of commands) (command_at method path body)) ≡ true

@@ -7,6 +7,7 @@ pub mod Items
 pub mod Accepted
 pub mod AccountLines
 pub mod Routing
+pub mod Ascending
 pub mod Answering
 pub mod Laws
 pub mod Tasks

@@ -1,29 +1,38 @@
--- What a message asks of the charging function: its path, its method and its body are looked at, in this order (TS 32.291, 6.1.3; the order is this product's own).
-use Rattle.std.specs.Prelude.{ℕ, ◌-◌, ◌^◌, ◌==◌, nat_lt, bytes_eq, List, [], ◌∷◌, length, take, drop, Option, Some, None, Result, Ok, Err, if◌then◌else◌, codes}
-use Rattle.rows.specs.Number.{number_of}
+-- What a message asks of the charging function: its path, its method and its body are looked at, in this order (TS 32.291, 6.1.3; TS 29.594, 5.3; the order is this product's own).
+use Rattle.std.specs.Prelude.{ℕ, List, Option, Some, None, Result, Ok, Err, codes}
 use Rattle.units.specs.Words.{name_of_cause}
+use Rattle.units.specs.declared.words.Cause.{Cause}
 use Rattle.units.specs.declared.words.Cause.TheVariants.{NotFound}
 use Rattle.units.specs.declared.refusal.JsonRefusal.{JsonRefusal}
 use Rattle.units.specs.declared.refusal.JsonRefusal.TheVariants.{NotJson, Missing, Wrong, OutOfMemory}
 use Rattle.units.specs.declared.reply.Reply.{Reply}
 use Rattle.units.specs.declared.reply.Reply.TheVariants as reply
 use Rattle.units.specs.declared.request.Operation.{Operation}
-use Rattle.units.specs.declared.request.Operation.TheVariants.{Create, Update, Release}
 use Rattle.units.specs.declared.request.Request.{Request}
+use Rattle.units.specs.declared.spending.SpendContext.{SpendContext}
+use Rattle.routes.specs.declared.call.Call.{Call}
+use Rattle.routes.specs.declared.call.Call.TheVariants as call
+use Rattle.routes.specs.declared.call.NoCall.{NoCall}
+use Rattle.routes.specs.Calls.{call_of, status_of}
+use Rattle.chf_core.specs.declared.command.Command.{Command}
+use Rattle.chf_core.specs.declared.command.Command.TheVariants.{Charge, Subscribe, Modify, Unsubscribe}
 use Rattle.chf_core.specs.Standing.{problem}
 use Rattle.charging_json.specs.Cause.{cause_of}
 use Rattle.charging_json.specs.Request.{request_in}
-use Rattle.rows.specs.Pieces.{piece_length}
+use Rattle.spend_json.specs.Cause as spending
+use Rattle.spend_json.specs.Context.{context_in}
 use Rattle.charging.specs.declared.item.Method.{Method}
 use Rattle.charging.specs.declared.item.Method.TheVariants.{Post, Put, Delete}
-use Rattle.charging.specs.AccountLines.{or_zero}
-use Rattle.charging.specs.Items.{begins_with}
 
--- ---- problems
+-- the word of a method (RFC 9110, 9.3)
+abbrev pub method_text : Method → List ℕ
+method_text Post = codes "POST"
+method_text Put = codes "PUT"
+method_text Delete = codes "DELETE"
 
--- no path of the table, and another method than its own
-abbrev pub not_found : ℕ → Reply
-not_found status = problem status NotFound
+-- what is no call is not found
+abbrev pub no_call : NoCall → Reply
+no_call refusal = problem (status_of refusal) NotFound
 
 -- the field that a refused body is refused for
 abbrev pub field_of : JsonRefusal → Option (List ℕ)
@@ -32,65 +41,38 @@ field_of (Missing field) = Some field
 field_of (Wrong field) = Some field
 field_of OutOfMemory = None
 
--- the problem of a body that is refused, with its field
-abbrev pub body_problem : Operation → JsonRefusal → Reply
-body_problem operation refusal = reply.Refused (record {
-  status = 400;
-  cause = name_of_cause (cause_of operation refusal);
-  detail = field_of refusal;
-})
+-- the problem of a body that is refused for a cause, with its field
+abbrev pub body_problem : Cause → JsonRefusal → Reply
+body_problem why refusal =
+    reply.Refused (record { status = 400; cause = name_of_cause why; detail = field_of refusal })
 
--- ---- paths
+-- a charging data request, or the problem of its body
+abbrev pub charge_in : Operation → Result Request JsonRefusal → Result Command Reply
+charge_in operation (Ok request) = Ok (Charge request)
+charge_in operation (Err refusal) = Err (body_problem (cause_of operation refusal) refusal)
 
--- the collection of charging sessions
-abbrev pub collection : List ℕ
-collection = codes "/nchf-convergedcharging/v3/chargingdata"
+-- a new subscription to spending limits, or the problem of its body
+abbrev pub subscribe_in : Result SpendContext JsonRefusal → Result Command Reply
+subscribe_in (Ok context) = Ok (Subscribe context)
+subscribe_in (Err refusal) = Err (body_problem (spending.cause_of refusal) refusal)
 
--- a text that is no reference counts as 0, which no session has
-abbrev pub reference_in : List ℕ → ℕ
-reference_in name = or_zero (number_of (2 ^ 32 - 1) name)
+-- another context of a subscription, or the problem of its body
+abbrev pub modify_in : ℕ → Result SpendContext JsonRefusal → Result Command Reply
+modify_in id (Ok context) = Ok (Modify id context)
+modify_in id (Err refusal) = Err (body_problem (spending.cause_of refusal) refusal)
 
--- what is done with a session: `/update` or `/release`
-abbrev pub deed : ℕ → List ℕ → Option Operation
-deed reference text =
-    if bytes_eq text (codes "/update") then Some (Update reference) else
-    (if bytes_eq text (codes "/release") then Some (Release reference) else None)
+-- the command of a call; the body of one that ends a subscription is not read
+abbrev pub command_in : Call → List ℕ → Result Command Reply
+command_in (call.Charge operation) body = charge_in operation (request_in operation body)
+command_in call.Subscribe body = subscribe_in (context_in body)
+command_in (call.Modify id) body = modify_in id (context_in body)
+command_in (call.Unsubscribe id) body = Ok (Unsubscribe id)
 
--- a session's name of at least one byte, up to the next slash, and what is done with it
-abbrev pub in_session : List ℕ → Option Operation
-in_session text = if nat_lt 0 (piece_length 47 text) then deed (reference_in (take (piece_length 47 text) text)) (drop (piece_length 47 text) text) else None
+-- the command of what may be a call
+abbrev pub command_by : Result Call NoCall → List ℕ → Result Command Reply
+command_by (Ok one) body = command_in one body
+command_by (Err refusal) body = Err (no_call refusal)
 
--- what follows the collection: nothing, or a slash and a session
-abbrev pub below : List ℕ → Option Operation
-below [] = Some Create
-below (byte ∷ text) = if byte == 47 then in_session text else None
-
--- the operation that a path without its query names
-abbrev pub operation_in : List ℕ → Option Operation
-operation_in path = if begins_with path collection then below (drop (length collection) path) else None
-
--- the operation that a path names; its query is read past, and nothing is decoded
-abbrev pub operation_at : List ℕ → Option Operation
-operation_at path = operation_in (take (piece_length 63 path) path)
-
--- ---- messages
-
--- the request of a body, or the problem of its refusal
-abbrev pub or_problem : Operation → Result Request JsonRefusal → Result Request Reply
-or_problem operation (Ok request) = Ok request
-or_problem operation (Err refusal) = Err (body_problem operation refusal)
-
--- a session is changed by POST alone
-abbrev pub by_method : Method → Operation → List ℕ → Result Request Reply
-by_method Post operation body = or_problem operation (request_in operation body)
-by_method Put operation body = Err (not_found 405)
-by_method Delete operation body = Err (not_found 405)
-
--- a path that names no operation is unknown
-abbrev pub by_operation : Method → Option Operation → List ℕ → Result Request Reply
-by_operation method None body = Err (not_found 404)
-by_operation method (Some operation) body = by_method method operation body
-
--- the request that a message brings, or the reply that refuses it
-abbrev pub request_at : Method → List ℕ → List ℕ → Result Request Reply
-request_at method path body = by_operation method (operation_at path) body
+-- the command that a message gives, or the reply that refuses it
+abbrev pub command_at : Method → List ℕ → List ℕ → Result Command Reply
+command_at method path body = command_by (call_of (method_text method) path) body

@@ -1,83 +1,39 @@
 //! What a message asks of the charging function: its path, its method and its body are looked at, in this order.
-ghost use Rattle.std.specs.Prelude.{◌≡◌, ◌⊎◌, Err, IfOk, Ok, Some, None, option_map};
+ghost use Rattle.std.specs.Prelude.{◌≡◌, false, IfOk};
 ghost use Rattle.charging_json.specs.Request.{request_in};
-ghost use Rattle.charging.specs.Routing.{below, body_problem, by_method, by_operation, collection, deed, field_of, in_session, not_found, operation_at, operation_in, or_problem, reference_in, request_at};
+ghost use Rattle.spend_json.specs.Context.{context_in};
+ghost use Rattle.chf_core.specs.After.{is_setup};
+ghost use Rattle.charging.specs.Routing.{body_problem, charge_in, command_at, command_in, field_of, method_text, modify_in, no_call, subscribe_in};
 
 use crate::item::Method;
-use crate::line_items::after_word;
-use charging_json::{cause_of, read_request};
-use chf_core::problem;
-use rows::{number, piece_length};
+use charging_json::read_request;
+use chf_core::{Command, problem};
+use routes::{Call, NoCall, call_of, status_of};
+use spend_json::read_context;
 use std::alloc::{AllocError, Global};
 use units::{
-    Cause, JsonRefusal, Operation, OutOfMemory, Problem, Reply, Request, Text, copy, name_of_cause,
+    Cause, JsonRefusal, Operation, OutOfMemory, Problem, Reply, Text, copy, name_of_cause,
 };
 
-/// The reference that a session's name is; 0, which no session has, where it is none.
-fn reference_in(name: &[u8]) -> u32
-    ensures { result ≡ reference_in name.now }
+fn method_text(method: Method) -> &'static [u8]
+    ensures { result.now ≡ method_text method }
 {
-    match number(u64::from(u32::MAX), name) {
-        Some(reference) => reference as u32,
-        None => 0,
+    match method {
+        Method::Post => b"POST",
+        Method::Put => b"PUT",
+        Method::Delete => b"DELETE",
     }
 }
 
-fn deed(reference: u32, text: &[u8]) -> Option<Operation>
-    ensures { result ≡ deed reference text.now }
+fn no_call(alloc: Global, refusal: NoCall) -> Result<Reply, AllocError>
+    ensures { IfOk result (λ r. r ≡ no_call refusal) }
 {
-    if text == b"/update".as_slice() {
-        Some(Operation::Update(reference))
-    } else if text == b"/release".as_slice() {
-        Some(Operation::Release(reference))
-    } else {
-        None
-    }
+    problem(alloc, status_of(refusal), Cause::NotFound)
 }
 
-fn in_session(text: &[u8]) -> Option<Operation>
-    ensures { result ≡ in_session text.now }
-{
-    let end = piece_length(b'/', text);
-    let (name, rest) = text.split_at(end);
-    if end > 0 {
-        deed(reference_in(name), rest)
-    } else {
-        None
-    }
-}
-
-fn below(text: &[u8]) -> Option<Operation>
-    ensures { result ≡ below text.now }
-{
-    match text {
-        [] => Some(Operation::Create),
-        [b'/', rest @ ..] => in_session(rest),
-        _ => None,
-    }
-}
-
-fn operation_in(path: &[u8]) -> Option<Operation>
-    ensures { result ≡ operation_in path.now }
-{
-    below(after_word(path, b"/nchf-convergedcharging/v3/chargingdata")?)
-}
-
-/// The operation that a path names.
-fn operation_at(path: &[u8]) -> Option<Operation>
-    ensures { result ≡ operation_at path.now }
-{
-    let end = piece_length(b'?', path);
-    operation_in(&path[..end])
-}
-
-/// The problem that refuses a body.
-fn body_problem(
-    alloc: Global,
-    operation: Operation,
-    refusal: &JsonRefusal,
-) -> Result<Reply, AllocError>
-    ensures { IfOk result (λ r. r ≡ body_problem operation refusal.now) }
+/// The problem that refuses a body for a cause.
+fn body_problem(alloc: Global, why: Cause, refusal: &JsonRefusal) -> Result<Reply, AllocError>
+    ensures { IfOk result (λ r. r ≡ body_problem why refusal.now) }
 {
     let detail = match refusal {
         JsonRefusal::Missing { field } | JsonRefusal::Wrong { field } => Some(copy(field)?),
@@ -86,41 +42,86 @@ fn body_problem(
     Ok(Reply::Refused {
         problem: Problem {
             status: 400,
-            cause: Text::from_text(alloc, name_of_cause(cause_of(operation, refusal)))?,
+            cause: Text::from_text(alloc, name_of_cause(why))?,
             detail,
         },
     })
 }
 
-/// The request that a message brings, or the reply that refuses it.
-pub fn request_at(
+fn charge_in(
+    alloc: Global,
+    operation: Operation,
+    body: &[u8],
+) -> Result<Result<Command, Reply>, OutOfMemory>
+    ensures command { IfOk result (λ r. r ≡ charge_in operation (request_in operation body.now)) }
+    ensures later { IfOk result (λ r. IfOk r (λ c. is_setup c ≡ false)) }
+{
+    match read_request(alloc, operation, body) {
+        Ok(request) => Ok(Ok(Command::Charge { request })),
+        Err(JsonRefusal::OutOfMemory) => Err(OutOfMemory),
+        Err(refusal) => {
+            let why = charging_json::cause_of(operation, &refusal);
+            Ok(Err(body_problem(alloc, why, &refusal)?))
+        }
+    }
+}
+
+fn subscribe_in(alloc: Global, body: &[u8]) -> Result<Result<Command, Reply>, OutOfMemory>
+    ensures command { IfOk result (λ r. r ≡ subscribe_in (context_in body.now)) }
+    ensures later { IfOk result (λ r. IfOk r (λ c. is_setup c ≡ false)) }
+{
+    match read_context(alloc, body) {
+        Ok(context) => Ok(Ok(Command::Subscribe { context })),
+        Err(JsonRefusal::OutOfMemory) => Err(OutOfMemory),
+        Err(refusal) => {
+            let why = spend_json::cause_of(&refusal);
+            Ok(Err(body_problem(alloc, why, &refusal)?))
+        }
+    }
+}
+
+fn modify_in(alloc: Global, id: u32, body: &[u8]) -> Result<Result<Command, Reply>, OutOfMemory>
+    ensures command { IfOk result (λ r. r ≡ modify_in id (context_in body.now)) }
+    ensures later { IfOk result (λ r. IfOk r (λ c. is_setup c ≡ false)) }
+{
+    match read_context(alloc, body) {
+        Ok(context) => Ok(Ok(Command::Modify { id, context })),
+        Err(JsonRefusal::OutOfMemory) => Err(OutOfMemory),
+        Err(refusal) => {
+            let why = spend_json::cause_of(&refusal);
+            Ok(Err(body_problem(alloc, why, &refusal)?))
+        }
+    }
+}
+
+fn command_in(
+    alloc: Global,
+    call: Call,
+    body: &[u8],
+) -> Result<Result<Command, Reply>, OutOfMemory>
+    ensures command { IfOk result (λ r. r ≡ command_in call body.now) }
+    ensures later { IfOk result (λ r. IfOk r (λ c. is_setup c ≡ false)) }
+{
+    match call {
+        Call::Charge(operation) => charge_in(alloc, operation, body),
+        Call::Subscribe => subscribe_in(alloc, body),
+        Call::Modify(id) => modify_in(alloc, id, body),
+        Call::Unsubscribe(id) => Ok(Ok(Command::Unsubscribe { id })),
+    }
+}
+
+/// The command that a message gives, or the reply that refuses it.
+pub fn command_at(
     alloc: Global,
     method: Method,
     path: &Text,
     body: &[u8],
-) -> Result<Result<Request, Reply>, OutOfMemory>
-    ensures { IfOk result (λ r. r ≡ request_at method path.now body.now) }
+) -> Result<Result<Command, Reply>, OutOfMemory>
+    ensures command { IfOk result (λ r. r ≡ command_at method path.now body.now) }
+    ensures later { IfOk result (λ r. IfOk r (λ c. is_setup c ≡ false)) }
 {
-    let Some(operation) = operation_at(path.as_str().as_bytes()) else {
-        return Ok(Err(problem(alloc, 404, Cause::NotFound)?));
-    };
-    match method {
-        Method::Post => by_body(alloc, operation, body),
-        Method::Put => Ok(Err(problem(alloc, 405, Cause::NotFound)?)),
-        Method::Delete => Ok(Err(problem(alloc, 405, Cause::NotFound)?)),
-    }
-}
-
-fn by_body(
-    alloc: Global,
-    operation: Operation,
-    body: &[u8],
-) -> Result<Result<Request, Reply>, OutOfMemory>
-    ensures { IfOk result (λ r. r ≡ or_problem operation (request_in operation body.now)) }
-{
-    match read_request(alloc, operation, body) {
-        Ok(request) => Ok(Ok(request)),
-        Err(JsonRefusal::OutOfMemory) => Err(OutOfMemory),
-        Err(refusal) => Ok(Err(body_problem(alloc, operation, &refusal)?)),
+    match call_of(method_text(method), path.as_str().as_bytes()) {
+        Ok(call) => command_in(alloc, call, body),
+        Err(refusal) => Ok(Err(no_call(alloc, refusal)?)),
     }
 }

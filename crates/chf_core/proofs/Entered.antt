@@ -12,7 +12,7 @@ use Rattle.chf_core.specs.declared.command.Outcome.TheVariants.{Charged}
 use Rattle.chf_core.specs.declared.decision.Verdict.{Verdict}
 use Rattle.chf_core.specs.declared.decision.Verdict.TheVariants.{Kept, Known, Refused, Fresh}
 use Rattle.chf_core.specs.declared.refusal.ChfRefusal.{ChfRefusal}
-use Rattle.chf_core.specs.declared.refusal.ChfRefusal.TheVariants.{UnknownAccount, SessionExists, SessionClosed, SequencePassed, UnknownReference, TopUpDiffers}
+use Rattle.chf_core.specs.declared.refusal.ChfRefusal.TheVariants.{UnknownAccount, SessionExists, SessionClosed, SequencePassed, UnknownReference, TopUpDiffers, WrongSupi, UnknownCounter, UnknownSubscription, UserUnknown}
 use Rattle.chf_core.specs.declared.session.Session.{Session}
 use Rattle.chf_core.specs.declared.key.Key.{Key}
 use Rattle.chf_core.specs.declared.kept_request.KeptRequest.{KeptRequest}
@@ -177,6 +177,10 @@ refused (SessionClosed last) h = refl
 refused (SequencePassed last) h = refl
 refused UnknownReference h = refl
 refused TopUpDiffers h = absurd h
+refused WrongSupi h = absurd h
+refused UnknownCounter h = absurd h
+refused UnknownSubscription h = absurd h
+refused UserUnknown h = absurd h
 
 pub always_a_reply : (a : List Command) (q : Request) → is_some (reply_to (state_of a) q) ≡ true
 always_a_reply a q =

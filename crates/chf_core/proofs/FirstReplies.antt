@@ -75,7 +75,7 @@ replied_at (Charge q ∷ a) k place e = by_place (place_of a k) refl e (replied_
 replied_at (Subscriber supi account barred ∷ a) k place e = later a (Subscriber supi account barred) k place (place_within a k place e) (λ r h. h) (replied_at a k place e)
 replied_at (TopUp id account amount ∷ a) k place e = later a (TopUp id account amount) k place (place_within a k place e) (λ r h. h) (replied_at a k place e)
 replied_at (Expire moment ∷ a) k place e = later a (Expire moment) k place (place_within a k place e) (λ r h. h) (replied_at a k place e)
-replied_at (CloseRecords moment ∷ a) k place e = later a (CloseRecords moment) k place (place_within a k place e) (λ r h. h) (replied_at a k place e)
+replied_at (c ∷ a) k place e = later a c k place (place_within a k place e) (λ r h. h) (replied_at a k place e)
 
 pub first_replies : (commands : List Command) (q : Request) (place : ℕ) → decision commands (Charge q) ≡ Kept place → IsFirstReply commands q place
 first_replies commands q place e =

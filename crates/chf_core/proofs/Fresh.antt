@@ -1,25 +1,30 @@
 -- What a fresh command comes to.
-use Rattle.std.proofs.Common.{◌≡◌, ◌==◌, ◌&&◌, ℕ, nat_le, Bool, true, false, cond, List, Option, Some, None}
+use Rattle.std.proofs.Common.{◌≡◌, ◌==◌, ◌&&◌, ℕ, ◌+◌, nat_le, Bool, true, false, cond, List, length, Option, Some, None}
 use Rattle.units.specs.declared.request.Operation.{Operation}
 use Rattle.units.specs.declared.request.Operation.TheVariants.{Create, Update, Release}
 use Rattle.units.specs.declared.request.Request.{Request}
 use Rattle.accounts.specs.Endings.{count_ending, Until}
 use Rattle.records.specs.Book.{closable}
 use Rattle.chf_core.specs.declared.command.Command.{Command}
-use Rattle.chf_core.specs.declared.command.Command.TheVariants.{Setup, Charge, Subscriber, TopUp, Expire, CloseRecords}
+use Rattle.chf_core.specs.declared.command.Command.TheVariants.{Setup, Charge, Subscriber, TopUp, Expire, CloseRecords, Subscribe, Modify, Unsubscribe}
 use Rattle.chf_core.specs.declared.command.Outcome.{Outcome}
-use Rattle.chf_core.specs.declared.command.Outcome.TheVariants.{Charged, Done}
+use Rattle.chf_core.specs.declared.command.Outcome.TheVariants.{Charged, Done, Spending, Removed}
 use Rattle.chf_core.specs.declared.decision.Verdict.TheVariants.{Fresh, Refused, Known}
-use Rattle.chf_core.specs.declared.refusal.ChfRefusal.TheVariants.{SessionClosed, SequencePassed, TopUpDiffers}
+use Rattle.chf_core.specs.declared.refusal.ChfRefusal.TheVariants.{SessionClosed, SequencePassed, TopUpDiffers, WrongSupi}
 use Rattle.chf_core.specs.declared.session.Session.{Session}
 use Rattle.chf_core.specs.declared.key.Key.{Key}
 use Rattle.chf_core.specs.declared.subscription.Sum.{Sum}
-use Rattle.chf_core.specs.Operator.{name_eq, subscription_of, account_number, topup_of}
+use Rattle.chf_core.specs.declared.subscription.Subscription.{Subscription}
+use Rattle.units.specs.declared.spending.SpendContext.{SpendContext}
+use Rattle.counters.specs.Subscriptions.{context_of}
+use Rattle.counters.specs.Watching.{are_known}
+use Rattle.chf_core.specs.Spending.{counters_in, contexts, status_for}
+use Rattle.chf_core.specs.Operator.{name_eq, setup_of, subscription_of, account_number, topup_of}
 use Rattle.chf_core.specs.Sessions.{named_by}
 use Rattle.chf_core.specs.Keys.{key_of, place_of, command_at, is_repeat}
 use Rattle.chf_core.specs.Money.{money, first_reply}
 use Rattle.chf_core.specs.Filed.{book}
-use Rattle.chf_core.specs.Decisions.{decision, at_key, at_place, at_new, at_new_create, at_new_later, at_kept, last_of, decide_subscriber, decide_again, decide_topup, decide_counted, same_row}
+use Rattle.chf_core.specs.Decisions.{decision, at_key, at_place, at_new, at_new_create, at_new_later, at_kept, last_of, decide_subscriber, decide_again, decide_topup, decide_counted, same_row, decide_known, decide_subscribe, decide_modify, decide_unsubscribe}
 use Rattle.chf_core.specs.Outcomes.{outcome_of}
 
 module _ (a : List Command) (q : Request) (o : Outcome) where
@@ -70,6 +75,23 @@ module _ (o : Outcome) where
   of_counted : (n : ℕ) → decide_counted n ≡ Fresh o → o ≡ Done
   of_counted n e = elim (n == 0) as (λ b. cond b Known (Fresh Done) ≡ Fresh o → o ≡ Done) [ true ↦ λ w. absurd (cc) | false ↦ λ w. cc ] e
 
+module _ (o told : Outcome) where
+  of_known : (b : Bool) → decide_known b told ≡ Fresh o → o ≡ told
+  of_known true e = cc
+  of_known false e = absurd (cc)
+
+  of_subscribe : (row : Option Subscription) (b : Bool) → decide_subscribe row b told ≡ Fresh o → o ≡ told
+  of_subscribe None b e = absurd (cc)
+  of_subscribe (Some row) b e = of_known b e
+
+  of_modify : (last : Option SpendContext) (supi : List ℕ) (b : Bool) → decide_modify last supi b told ≡ Fresh o → o ≡ told
+  of_modify None supi b e = absurd (cc)
+  of_modify (Some last) supi b e = elim (name_eq last.supi supi) as (λ s. cond s (decide_known b told) (Refused WrongSupi) ≡ Fresh o → o ≡ told) [ true ↦ λ w. of_known b w | false ↦ λ w. absurd (cc) ] e
+
+of_unsubscribe : (o : Outcome) (last : Option SpendContext) → decide_unsubscribe last ≡ Fresh o → o ≡ Removed
+of_unsubscribe o None e = absurd (cc)
+of_unsubscribe o (Some last) e = cc
+
 pub fresh_is : (a : List Command) (c : Command) (o : Outcome) → decision a c ≡ Fresh o → o ≡ outcome_of a c
 fresh_is a (Setup setup) o e = cc
 fresh_is a (Charge q) o e = fresh_request a q o e
@@ -77,3 +99,8 @@ fresh_is a (Subscriber supi account barred) o e = of_row o (same_row account bar
 fresh_is a (TopUp id account amount) o e = of_topup o account amount (account_number a account) (topup_of a id) e
 fresh_is a (Expire moment) o e = of_counted o (count_ending (money a).reservations (Until moment)) e
 fresh_is a (CloseRecords moment) o e = of_counted o (closable (book a).sessions) e
+fresh_is a (Subscribe context) o e =
+    of_subscribe o (Spending (length (contexts a) + 1) (status_for a context)) (subscription_of a context.supi) (are_known (counters_in (setup_of a)) context.counters) e
+fresh_is a (Modify id context) o e =
+    of_modify o (Spending id (status_for a context)) (context_of (contexts a) id) context.supi (are_known (counters_in (setup_of a)) context.counters) e
+fresh_is a (Unsubscribe id) o e = of_unsubscribe o (context_of (contexts a) id) e

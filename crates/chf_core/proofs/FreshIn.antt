@@ -7,15 +7,22 @@ use Rattle.units.specs.declared.request.Request.{Request}
 use Rattle.accounts.specs.Endings.{count_ending, Until}
 use Rattle.records.specs.Book.{closable}
 use Rattle.chf_core.specs.declared.command.Command.{Command}
-use Rattle.chf_core.specs.declared.command.Command.TheVariants.{Setup, Charge, Subscriber, TopUp, Expire, CloseRecords}
-use Rattle.chf_core.specs.declared.command.Outcome.TheVariants.{Done}
+use Rattle.chf_core.specs.declared.command.Command.TheVariants.{Setup, Charge, Subscriber, TopUp, Expire, CloseRecords, Subscribe, Modify, Unsubscribe}
+use Rattle.chf_core.specs.declared.command.Outcome.TheVariants.{Done, Removed}
 use Rattle.chf_core.specs.declared.decision.Verdict.{Verdict}
 use Rattle.chf_core.specs.declared.decision.Verdict.TheVariants.{Fresh, Refused, Known}
-use Rattle.chf_core.specs.declared.refusal.ChfRefusal.TheVariants.{SessionClosed, SequencePassed, TopUpDiffers}
+use Rattle.chf_core.specs.declared.refusal.ChfRefusal.TheVariants.{SessionClosed, SequencePassed, TopUpDiffers, WrongSupi, UnknownCounter}
 use Rattle.chf_core.specs.declared.session.Session.{Session}
 use Rattle.chf_core.specs.declared.key.Key.{Key}
 use Rattle.chf_core.specs.declared.subscription.Sum.{Sum}
-use Rattle.chf_core.specs.Decisions.{is_fresh, last_of, at_kept, same_row, decide_subscriber, decide_again, decide_topup, decide_counted}
+use Rattle.chf_core.specs.declared.subscription.Subscription.{Subscription}
+use Rattle.units.specs.declared.spending.SpendContext.{SpendContext}
+use Rattle.counters.specs.Subscriptions.{context_of}
+use Rattle.counters.specs.Watching.{are_known}
+use Rattle.chf_core.specs.declared.command.Outcome.{Outcome}
+use Rattle.chf_core.specs.Operator.{name_eq}
+use Rattle.chf_core.specs.Spending.{counters_in}
+use Rattle.chf_core.specs.Decisions.{is_fresh, last_of, at_kept, same_row, decide_subscriber, decide_again, decide_topup, decide_counted, decide_known, decide_subscribe, decide_modify, decide_unsubscribe}
 use Rattle.chf_core.specs.State.{State, at_text, account_named, named_by, key_of, place_of, kept_at}
 use Rattle.chf_core.specs.Deciding.{outcome_of, is_repeat, fresh_charge, at_new_create, at_new_later, at_new, at_place, at_key, decision}
 
@@ -75,6 +82,26 @@ of_counted n e = by _ e where
   by true w = absurd (false≢true w)
   by false w = refl
 
+of_known : (told : Outcome) (b : Bool) → Tells (Fresh told) (decide_known b told)
+of_known told true e = refl
+of_known told false e = absurd (false≢true e)
+
+of_subscribe : (told : Outcome) (row : Option Subscription) (b : Bool) → Tells (Fresh told) (decide_subscribe row b told)
+of_subscribe told None b e = absurd (false≢true e)
+of_subscribe told (Some row) b e = of_known told b e
+
+modify_by : (told : Outcome) (same b : Bool) → Tells (Fresh told) (cond same (decide_known b told) (Refused WrongSupi))
+modify_by told true b e = of_known told b e
+modify_by told false b e = absurd (false≢true e)
+
+of_modify : (told : Outcome) (last : Option SpendContext) (supi : List ℕ) (b : Bool) → Tells (Fresh told) (decide_modify last supi b told)
+of_modify told None supi b e = absurd (false≢true e)
+of_modify told (Some last) supi b e = modify_by told (name_eq last.supi supi) b e
+
+of_unsubscribe : (last : Option SpendContext) → Tells (Fresh Removed) (decide_unsubscribe last)
+of_unsubscribe None e = absurd (false≢true e)
+of_unsubscribe (Some last) e = refl
+
 -- so each command
 pub fresh_in : (s : State) (c : Command) → Tells (Fresh (outcome_of s c)) (decision s c)
 fresh_in s (Setup setup) e = refl
@@ -83,3 +110,8 @@ fresh_in s (Subscriber supi account barred) e = of_subscriber (same_row account 
 fresh_in s (TopUp id account amount) e = of_topup account amount (account_named s account) (at_text s.topups id) e
 fresh_in s (Expire moment) e = of_counted (count_ending s.money.reservations (Until moment)) e
 fresh_in s (CloseRecords moment) e = of_counted (closable s.book.sessions) e
+fresh_in s (Subscribe context) e =
+    of_subscribe (outcome_of s (Subscribe context)) (at_text s.subscribers context.supi) (are_known (counters_in s.setup) context.counters) e
+fresh_in s (Modify id context) e =
+    of_modify (outcome_of s (Modify id context)) (context_of s.contexts id) context.supi (are_known (counters_in s.setup) context.counters) e
+fresh_in s (Unsubscribe id) e = of_unsubscribe (context_of s.contexts id) e

@@ -142,7 +142,7 @@ money_is (TopUp id account amount ∷ a) =
     made_topping amount (account_named s account) s.money
     ∙ (λ i. topped (money_is a i) amount (number_is a account i))
 money_is (Expire moment ∷ a) = ap (moved (ExpiredMove moment)) (money_is a)
-money_is (CloseRecords moment ∷ a) = money_is a
+money_is (c ∷ a) = money_is a
 
 -- and they are those of all moves
 onto_made : (moves before : List Move) → money_of (onto moves before) ≡ made moves (money_of before)

@@ -1,16 +1,19 @@
 -- The state after a list of commands keeps the requests that the whole list says, and decides as it does.
-use Rattle.std.proofs.Common.{◌≡◌, ◌<◌, ◌==◌, ℕ, suc, Bool, true, false, cond, nat_le, List, [], ◌∷◌, ◌++◌, length, find, Option, Some, None, option_map, refl, sym, ap, ◌∙◌, subst, arith}
+use Rattle.std.proofs.Common.{◌≡◌, ◌<◌, ◌==◌, ℕ, suc, ◌+◌, Bool, true, false, cond, nat_le, List, [], ◌∷◌, ◌++◌, length, find, Option, Some, None, option_map, refl, sym, ap, ◌∙◌, subst, arith}
 use Rattle.std.specs.Option.{option_or}
 use Rattle.std.proofs.lemmas.List.Folds.{find-append}
 use Rattle.units.specs.declared.request.Operation.{Operation}
 use Rattle.units.specs.declared.request.Operation.TheVariants.{Create, Update, Release}
 use Rattle.units.specs.declared.request.Request.{Request}
+use Rattle.units.specs.declared.spending.SpendContext.{SpendContext}
+use Rattle.counters.specs.Subscriptions.{context_of}
+use Rattle.counters.specs.Watching.{are_known}
 use Rattle.sessions.specs.Content.{content}
 use Rattle.accounts.specs.Endings.{count_ending, Until}
 use Rattle.records.specs.Book.{closable}
 use Rattle.chf_core.specs.declared.command.Command.{Command}
-use Rattle.chf_core.specs.declared.command.Command.TheVariants.{Setup, Charge, Subscriber, TopUp, Expire, CloseRecords}
-use Rattle.chf_core.specs.declared.command.Outcome.TheVariants.{Charged}
+use Rattle.chf_core.specs.declared.command.Command.TheVariants.{Setup, Charge, Subscriber, TopUp, Expire, CloseRecords, Subscribe, Modify, Unsubscribe}
+use Rattle.chf_core.specs.declared.command.Outcome.TheVariants.{Charged, Spending}
 use Rattle.chf_core.specs.declared.decision.Verdict.TheVariants.{Fresh, Refused}
 use Rattle.chf_core.specs.declared.refusal.ChfRefusal.TheVariants.{SessionClosed, SequencePassed}
 use Rattle.chf_core.specs.declared.session.Session.{Session}
@@ -23,15 +26,17 @@ use Rattle.chf_core.specs.Keys as keys
 use Rattle.chf_core.specs.Keys.{key, key_eq, key_in, is_key}
 use Rattle.chf_core.specs.Money as money
 use Rattle.chf_core.specs.Decisions as decisions
-use Rattle.chf_core.specs.Decisions.{last_of, at_kept, decide_subscriber, decide_topup, decide_counted, same_row}
+use Rattle.chf_core.specs.Decisions.{last_of, at_kept, decide_subscriber, decide_topup, decide_counted, decide_subscribe, decide_modify, decide_unsubscribe, same_row}
+use Rattle.chf_core.specs.Spending as spending
+use Rattle.chf_core.specs.Spending.{counters_in, spent_on, status_by}
 use Rattle.chf_core.specs.State.{State, session_at, key_by, key_of, kept_key, place_of, kept_at}
 use Rattle.chf_core.specs.Deciding as deciding
-use Rattle.chf_core.specs.Deciding.{first_reply, is_repeat, decision}
+use Rattle.chf_core.specs.Deciding.{first_reply, is_repeat, decision, status_for}
 use Rattle.chf_core.specs.After.{entry_of, entered, state_of}
 use Rattle.chf_core.specs.Joined.{request_of, request_at, IsLeftBy}
 use Rattle.chf_core.proofs.Places.{eq_yes, eq_no}
 use Rattle.chf_core.proofs.Named.{place_within, same_number}
-use Rattle.chf_core.proofs.JoinedParts.{setup_is, count_is, names_are, number_is, subscribers_are, topups_are, sessions_are, key_is, references_are, book_is, named_is}
+use Rattle.chf_core.proofs.JoinedParts.{setup_is, count_is, names_are, number_is, subscribers_are, topups_are, sessions_are, key_is, references_are, book_is, contexts_are, account_is, named_is}
 use Rattle.chf_core.proofs.JoinedMoney.{money_is, moves_are, reply_is}
 
 -- ---- kept requests
@@ -214,6 +219,11 @@ key_decided a q (Some k) =
         ap (at_kept p (last_of (list.named_by q.operation a q)))
         (ap (is_repeat q) (requests_are a p) ∙ repeats a k p q e)
 
+-- what a subscription is told
+told_is : (a : List Command) (context : SpendContext) → status_for (state_of a) context ≡ spending.status_for a context
+told_is a context = λ i.
+    status_by (counters_in (setup_is a i)) (spent_on (money_is a i) (account_is a (Some context.supi) i)) context
+
 pub decision_is : (a : List Command) (c : Command) → decision (state_of a) c ≡ decisions.decision a c
 decision_is a (Setup setup) = refl
 decision_is a (Charge q) = ap (deciding.at_key (state_of a) q) (key_is a q) ∙ key_decided a q (keys.key_of a q)
@@ -223,6 +233,13 @@ decision_is a (TopUp id account amount) =
     λ i. decide_topup account amount (number_is a account i) (topups_are a id i)
 decision_is a (Expire moment) = λ i. decide_counted (count_ending (money_is a i).reservations (Until moment))
 decision_is a (CloseRecords moment) = λ i. decide_counted (closable (book_is a i).sessions)
+decision_is a (Subscribe context) = λ i.
+    decide_subscribe (subscribers_are a context.supi i) (are_known (counters_in (setup_is a i)) context.counters)
+    (Spending (length (contexts_are a i) + 1) (told_is a context i))
+decision_is a (Modify id context) = λ i.
+    decide_modify (context_of (contexts_are a i) id) context.supi (are_known (counters_in (setup_is a i)) context.counters)
+    (Spending id (told_is a context i))
+decision_is a (Unsubscribe id) = λ i. decide_unsubscribe (context_of (contexts_are a i) id)
 
 pub joined : (a : List Command) → IsLeftBy a (state_of a)
 joined a = record {
@@ -236,6 +253,7 @@ joined a = record {
   moves = moves_are a;
   money = money_is a;
   book = book_is a;
+  contexts = contexts_are a;
   requests = requests_are a;
   places = places_are a;
 }

@@ -63,7 +63,7 @@ none_under (Charge q ∷ a) k e = by_key (key_of a q) refl (no_place (place_of a
 none_under (Subscriber u n b ∷ a) k e = none_under a k e
 none_under (TopUp i n x ∷ a) k e = none_under a k e
 none_under (Expire m ∷ a) k e = none_under a k e
-none_under (CloseRecords m ∷ a) k e = none_under a k e
+none_under (c ∷ a) k e = none_under a k e
 
 -- a fresh request's key has no place
 pub fresh_place : (a : List Command) (q : Request) (k : Key) (o : Outcome) → key_of a q ≡ Some k → decision a (Charge q) ≡ Fresh o → place_of a k ≡ None
@@ -110,4 +110,4 @@ kept_keyed (Charge q ∷ a) n h = by_key (key_of a q) refl (kept_keyed a n h.1)
 kept_keyed (Subscriber u m b ∷ a) n h = kept_keyed a n h.1
 kept_keyed (TopUp i m x ∷ a) n h = kept_keyed a n h.1
 kept_keyed (Expire m ∷ a) n h = kept_keyed a n h.1
-kept_keyed (CloseRecords m ∷ a) n h = kept_keyed a n h.1
+kept_keyed (c ∷ a) n h = kept_keyed a n h.1

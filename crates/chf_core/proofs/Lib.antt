@@ -13,6 +13,7 @@ pub mod Keyed
 pub mod NameLists
 pub mod Consumers
 pub mod Few
+pub mod Subscribed
 pub mod Following
 pub mod Charging
 mod Moved

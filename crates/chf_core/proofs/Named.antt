@@ -94,7 +94,7 @@ keeps_one (Charge q) a = keeps_after q.operation q (account_for a q.subscriber) 
 keeps_one (Subscriber u n b) a = keeps_same (sessions a)
 keeps_one (TopUp i u x) a = keeps_same (sessions a)
 keeps_one (Expire m) a = keeps_same (sessions a)
-keeps_one (CloseRecords m) a = keeps_same (sessions a)
+keeps_one c a = keeps_same (sessions a)
 
 -- the session that was just opened
 pub pushed_owner : (ss : List Session) (x : Session) → owner (ss ++ x ∷ []) (length ss + 1) ≡ Some (lasting x)
@@ -143,7 +143,7 @@ place_within (Charge q ∷ a) k i e = by_place (place_of a k) (is_key (key_of a 
 place_within (Subscriber u n b ∷ a) k i e = let h = place_within a k i e in omega arith
 place_within (TopUp j u x ∷ a) k i e = let h = place_within a k i e in omega arith
 place_within (Expire m ∷ a) k i e = let h = place_within a k i e in omega arith
-place_within (CloseRecords m ∷ a) k i e = let h = place_within a k i e in omega arith
+place_within (c ∷ a) k i e = let h = place_within a k i e in omega arith
 
 pub both : (a b : Bool) → (a && b) ≡ true → (a ≡ true) × (b ≡ true)
 both true b e = (refl, e)
@@ -174,7 +174,7 @@ place_stays (Charge p) a k i e = ap (λ o. option_or o (cond (is_key (key_of a p
 place_stays (Subscriber u n b) a k i e = e
 place_stays (TopUp j u x) a k i e = e
 place_stays (Expire m) a k i e = e
-place_stays (CloseRecords m) a k i e = e
+place_stays c a k i e = e
 
 -- what a repeat finds
 pub record Found (a : List Command) (q : Request) (i : ℕ) : Type 0 where

@@ -160,7 +160,7 @@ owned (TopUp i n x ∷ a) = by_number (account_number a n) (owned a)
     by_number None own = own
     by_number (Some j) own = own
 owned (Expire m ∷ a) = owned_without (sessions a) (money a).reservations (Until m) (owned a)
-owned (CloseRecords m ∷ a) = owned a
+owned (c ∷ a) = owned a
 
 -- what a request charges owns all that is set aside for its session
 pub past_end : (ss : List Session) → account_in ss (length ss + 1) ≡ None

@@ -116,7 +116,7 @@ owned_after s (Charge q) own = to_owned (after s (Charge q)) (owned_charge s q (
 owned_after s (Subscriber supi account barred) own = to_owned (after s (Subscriber supi account barred)) (owned_subscriber s.sessions s.money (account_named s account) (from_owned s own))
 owned_after s (TopUp id account amount) own = to_owned (after s (TopUp id account amount)) (owned_topup s.sessions s.money amount (account_named s account) (from_owned s own))
 owned_after s (Expire moment) own = to_owned (after s (Expire moment)) (owned_expire s.sessions s.money moment (from_owned s own))
-owned_after s (CloseRecords moment) own = own
+owned_after s c own = own
 
 -- what a request charges owns all that is set aside for its session
 pub request_owns : (s : State) (q : Request) → IsOwned s → IfSome (target_of s q) (λ t. OwnsAll t s.money)

@@ -1,25 +1,33 @@
 -- Each verdict suits its command.
-use Rattle.std.proofs.Common.{◌≡◌, ◌==◌, ◌&&◌, ℕ, nat_le, Bool, true, false, cond, List, Option, Some, None, refl, ap, ◌∙◌}
+use Rattle.std.proofs.Common.{◌≡◌, ◌==◌, ◌&&◌, ℕ, ◌+◌, nat_le, Bool, true, false, cond, List, length, Option, Some, None, refl, ap, ◌∙◌}
 use Rattle.units.specs.declared.request.Operation.{Operation}
 use Rattle.units.specs.declared.request.Operation.TheVariants.{Create, Update, Release}
 use Rattle.units.specs.declared.request.Request.{Request}
 use Rattle.accounts.specs.Endings.{count_ending, Until}
 use Rattle.records.specs.Book.{closable}
 use Rattle.chf_core.specs.declared.command.Command.{Command}
-use Rattle.chf_core.specs.declared.command.Command.TheVariants.{Setup, Charge, Subscriber, TopUp, Expire, CloseRecords}
-use Rattle.chf_core.specs.declared.command.Outcome.TheVariants.{Charged, Done}
-use Rattle.chf_core.specs.declared.refusal.ChfRefusal.TheVariants.{SessionClosed, SequencePassed, TopUpDiffers}
+use Rattle.chf_core.specs.declared.command.Command.TheVariants.{Setup, Charge, Subscriber, TopUp, Expire, CloseRecords, Subscribe, Modify, Unsubscribe}
+use Rattle.chf_core.specs.declared.command.Outcome.TheVariants.{Charged, Done, Spending, Removed}
+use Rattle.chf_core.specs.declared.refusal.ChfRefusal.TheVariants.{SessionClosed, SequencePassed, TopUpDiffers, WrongSupi}
 use Rattle.chf_core.specs.declared.decision.Verdict.TheVariants.{Known, Refused, Fresh}
 use Rattle.chf_core.specs.declared.session.Session.{Session}
 use Rattle.chf_core.specs.declared.subscription.Sum.{Sum}
+use Rattle.chf_core.specs.declared.subscription.Subscription.{Subscription}
+use Rattle.units.specs.declared.spending.SpendContext.{SpendContext}
+use Rattle.units.specs.declared.spending.SpendStatus.{SpendStatus}
+use Rattle.counters.specs.Subscriptions.{context_of}
+use Rattle.counters.specs.Watching.{are_known}
+use Rattle.chf_core.specs.declared.refusal.ChfRefusal.{ChfRefusal}
+use Rattle.chf_core.specs.declared.refusal.ChfRefusal.TheVariants as refusal
+use Rattle.chf_core.specs.Spending.{counters_in, contexts, status_for}
 use Rattle.chf_core.specs.declared.key.Key.{Key}
-use Rattle.chf_core.specs.Operator.{name_eq, subscription_of, account_number, topup_of}
+use Rattle.chf_core.specs.Operator.{name_eq, setup_of, subscription_of, account_number, topup_of}
 use Rattle.chf_core.specs.Sessions.{named_by}
 use Rattle.chf_core.specs.Keys.{key_of, place_of, command_at, is_repeat}
 use Rattle.chf_core.specs.Money.{money, first_reply}
 use Rattle.chf_core.specs.Filed.{book}
-use Rattle.chf_core.specs.Decisions.{decision, at_key, at_place, at_new, at_new_create, at_new_later, at_kept, last_of, decide_subscriber, decide_again, decide_topup, same_row}
-use Rattle.chf_core.specs.Verdicts.{IsOfRequest, IsOfOperator, IsOfCommand}
+use Rattle.chf_core.specs.Decisions.{decision, at_key, at_place, at_new, at_new_create, at_new_later, at_kept, last_of, decide_subscriber, decide_again, decide_topup, same_row, decide_known, decide_subscribe, decide_modify, decide_unsubscribe}
+use Rattle.chf_core.specs.Verdicts.{IsOfRequest, IsOfOperator, IsOfCommand, IsOfSpending, IsOfUnsubscribe, RefusesSubscribe, RefusesModify}
 use Rattle.chf_core.proofs.FirstReplies.{first_replies}
 
 module _ (a : List Command) (q : Request) where
@@ -63,6 +71,24 @@ again_suits : (account : List ℕ) (amount : ℕ) (o : Option Sum) → IsOfOpera
 again_suits account amount None = refl
 again_suits account amount (Some s) = elim (name_eq s.account account && s.amount == amount) as (λ b. IsOfOperator (cond b Known (Refused TopUpDiffers))) [ true ↦ tt | false ↦ tt ]
 
+-- a call on a subscription that is told a number and statuses
+module _ (id : ℕ) (told : SpendStatus) where
+  known_suits : (Refuses : ChfRefusal → Type 0) (b : Bool) → Refuses refusal.UnknownCounter → IsOfSpending Refuses (decide_known b (Spending id told))
+  known_suits Refuses true h = (id, (told, refl))
+  known_suits Refuses false h = h
+
+  subscribe_suits : (row : Option Subscription) (b : Bool) → IsOfSpending RefusesSubscribe (decide_subscribe row b (Spending id told))
+  subscribe_suits None b = tt
+  subscribe_suits (Some row) b = known_suits RefusesSubscribe b tt
+
+  modify_suits : (last : Option SpendContext) (supi : List ℕ) (b : Bool) → IsOfSpending RefusesModify (decide_modify last supi b (Spending id told))
+  modify_suits None supi b = tt
+  modify_suits (Some last) supi b = elim (name_eq last.supi supi) as (λ s. IsOfSpending RefusesModify (cond s (decide_known b (Spending id told)) (Refused WrongSupi))) [ true ↦ known_suits RefusesModify b tt | false ↦ tt ]
+
+unsubscribe_suits : (last : Option SpendContext) → IsOfUnsubscribe (decide_unsubscribe last)
+unsubscribe_suits None = tt
+unsubscribe_suits (Some last) = refl
+
 pub suits : (commands : List Command) (c : Command) → IsOfCommand commands c (decision commands c)
 suits commands (Setup setup) = refl
 suits commands (Charge q) = request_suits commands q
@@ -78,3 +104,8 @@ suits commands (TopUp id account amount) = by_number (account_number commands ac
     by_number (Some number) = again_suits account amount (topup_of commands id)
 suits commands (Expire moment) = elim (count_ending (money commands).reservations (Until moment) == 0) as (λ b. IsOfOperator (cond b Known (Fresh Done))) [ true ↦ tt | false ↦ refl ]
 suits commands (CloseRecords moment) = elim (closable (book commands).sessions == 0) as (λ b. IsOfOperator (cond b Known (Fresh Done))) [ true ↦ tt | false ↦ refl ]
+suits commands (Subscribe context) =
+    subscribe_suits (length (contexts commands) + 1) (status_for commands context) (subscription_of commands context.supi) (are_known (counters_in (setup_of commands)) context.counters)
+suits commands (Modify id context) =
+    modify_suits id (status_for commands context) (context_of (contexts commands) id) context.supi (are_known (counters_in (setup_of commands)) context.counters)
+suits commands (Unsubscribe id) = unsubscribe_suits (context_of (contexts commands) id)

@@ -5,8 +5,9 @@ use Rattle.units.specs.declared.request.Request.{Request}
 use Rattle.sessions.specs.Content.{content}
 use Rattle.accounts.specs.declared.moves.Move.{Move}
 use Rattle.accounts.specs.Making.{made, onto}
+use Rattle.counters.specs.Subscriptions.{subscribed, with_context}
 use Rattle.chf_core.specs.declared.command.Command.{Command}
-use Rattle.chf_core.specs.declared.command.Command.TheVariants.{Setup, Charge, Subscriber, TopUp}
+use Rattle.chf_core.specs.declared.command.Command.TheVariants.{Setup, Charge, Subscriber, TopUp, Subscribe, Modify, Unsubscribe}
 use Rattle.chf_core.specs.declared.command.Outcome.{Outcome}
 use Rattle.chf_core.specs.declared.command.Outcome.TheVariants.{Charged}
 use Rattle.chf_core.specs.declared.decision.Verdict.TheVariants.{Fresh}
@@ -46,6 +47,9 @@ written s (Subscriber supi account barred) = record s {
 }
 written s (TopUp id account amount) =
     record s { topups = with_text s.topups id (record { account = account; amount = amount }) }
+written s (Subscribe context) = record s { contexts = subscribed s.contexts context }
+written s (Modify id context) = record s { contexts = with_context s.contexts id (Some context) }
+written s (Unsubscribe id) = record s { contexts = with_context s.contexts id None }
 written s other = s
 
 -- the state after a command: its moves are made, what it files stands in the records, and there is one command more

@@ -27,6 +27,7 @@ state_seen c = record {
   sessions = c.sessions.items;
   money = c.accounts.state;
   book = c.book.records;
+  contexts = c.subscriptions.contexts;
   requests = c.requests.items;
 }
 
@@ -34,7 +35,7 @@ state_seen c = record {
 abbrev pub places : Inside → ℕ
 places c =
     min (min (min (vec_capacity c.sessions - vec_len c.sessions) (vec_capacity c.requests - vec_len c.requests)) (min (room c.keyed) (4294967295 - c.count)))
-    (min c.names.room (min c.subscribers.spare c.topups.spare))
+    (min (min c.names.room c.subscriptions.spare) (min c.subscribers.spare c.topups.spare))
 
 -- the value of the machine
 abbrev pub machine : Inside → Machine
@@ -51,6 +52,7 @@ pub record IsIndexed (c : Inside) : Type 0 where
   pub below : AreBelow c.count c.requests.items
   pub owned : IsOwned (state_seen c)
   pub few : length c.sessions.items ≤ c.count
+  pub made : length c.subscriptions.contexts ≤ c.count
   pub limited : c.book.limits ≡ limits_in c.setup
   pub numbered : AreNumbered (length c.sessions.items) c.book.records.sessions
 

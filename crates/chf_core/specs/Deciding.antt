@@ -1,17 +1,21 @@
 -- What is decided on a command in a state, by the order of its checks, and the first reply to a request (TS 32.290,
 -- 5.3.2; the order is this product's own).
-use Rattle.std.specs.Prelude.{ℕ, ◌+◌, nat_le, Bool, false, if◌then◌else◌, [], length, Option, Some, None}
+use Rattle.std.specs.Prelude.{ℕ, ◌+◌, nat_le, Bool, false, if◌then◌else◌, List, [], length, Option, Some, None}
 use Rattle.units.specs.declared.request.Operation.{Operation}
 use Rattle.units.specs.declared.request.Operation.TheVariants.{Create, Update, Release}
 use Rattle.units.specs.declared.request.Request.{Request}
+use Rattle.units.specs.declared.spending.SpendContext.{SpendContext}
+use Rattle.units.specs.declared.spending.SpendStatus.{SpendStatus}
 use Rattle.units.specs.declared.answer.Answer.{Answer}
 use Rattle.units.specs.declared.reply.Reply.{Reply}
 use Rattle.units.specs.declared.reply.Reply.TheVariants as reply
 use Rattle.sessions.specs.Content.{same_content}
 use Rattle.accounts.specs.Endings.{count_ending, Until}
 use Rattle.records.specs.Book.{closable}
+use Rattle.counters.specs.Subscriptions.{context_of}
+use Rattle.counters.specs.Watching.{are_known}
 use Rattle.chf_core.specs.declared.command.Command.{Command}
-use Rattle.chf_core.specs.declared.command.Command.TheVariants.{Setup, Charge, Subscriber, TopUp, Expire, CloseRecords}
+use Rattle.chf_core.specs.declared.command.Command.TheVariants.{Setup, Charge, Subscriber, TopUp, Expire, CloseRecords, Subscribe, Modify, Unsubscribe}
 use Rattle.chf_core.specs.declared.command.Outcome.{Outcome}
 use Rattle.chf_core.specs.declared.command.Outcome.TheVariants as outcome
 use Rattle.chf_core.specs.declared.refusal.ChfRefusal.TheVariants.{SessionExists, SessionClosed, SequencePassed, UnknownReference}
@@ -21,8 +25,9 @@ use Rattle.chf_core.specs.declared.session.Session.{Session}
 use Rattle.chf_core.specs.declared.key.Key.{Key}
 use Rattle.chf_core.specs.declared.kept_request.KeptRequest.{KeptRequest}
 use Rattle.chf_core.specs.Money.{failover_in, user_unknown}
-use Rattle.chf_core.specs.Decisions.{last_of, at_kept, same_row, decide_subscriber, decide_topup, decide_counted}
-use Rattle.chf_core.specs.State.{State, at_text, account_named, account_for, named_by, key_of, place_of, kept_at}
+use Rattle.chf_core.specs.Decisions.{last_of, at_kept, same_row, decide_subscriber, decide_topup, decide_counted, decide_subscribe, decide_modify, decide_unsubscribe}
+use Rattle.chf_core.specs.Spending.{counters_in, spent_on, status_by}
+use Rattle.chf_core.specs.State.{State, at_text, account_named, account_of, account_for, named_by, key_of, place_of, kept_at}
 use Rattle.chf_core.specs.CommandMoves.{target_of, rating_of, infos_for}
 
 -- ---- the first reply
@@ -54,9 +59,22 @@ reply_by (Release reference) s q = reply.Released
 abbrev pub first_reply : State → Request → Reply
 first_reply s q = reply_by q.operation s q
 
+-- ---- what a subscription to spending limits is told
+
+-- what was spent on the account of a subscriber, by its latest row (this product's own)
+abbrev pub spent_of : State → List ℕ → ℕ
+spent_of s supi = spent_on s.money (account_of s supi)
+
+-- the statuses that a subscription with a context is told (TS 29.594, 4.2.2.2)
+abbrev pub status_for : State → SpendContext → SpendStatus
+status_for s context = status_by (counters_in s.setup) (spent_of s context.supi) context
+
 -- what a command comes to
 abbrev pub outcome_of : State → Command → Outcome
 outcome_of s (Charge q) = outcome.Charged (first_reply s q)
+outcome_of s (Subscribe context) = outcome.Spending (length s.contexts + 1) (status_for s context)
+outcome_of s (Modify id context) = outcome.Spending id (status_for s context)
+outcome_of s (Unsubscribe id) = outcome.Removed
 outcome_of s other = outcome.Done
 
 -- ---- the decision on a request
@@ -106,3 +124,10 @@ decision s (Subscriber supi account barred) = decide_subscriber (same_row accoun
 decision s (TopUp id account amount) = decide_topup account amount (account_named s account) (at_text s.topups id)
 decision s (Expire moment) = decide_counted (count_ending s.money.reservations (Until moment))
 decision s (CloseRecords moment) = decide_counted (closable s.book.sessions)
+decision s (Subscribe context) =
+    decide_subscribe (at_text s.subscribers context.supi) (are_known (counters_in s.setup) context.counters)
+    (outcome_of s (Subscribe context))
+decision s (Modify id context) =
+    decide_modify (context_of s.contexts id) context.supi (are_known (counters_in s.setup) context.counters)
+    (outcome_of s (Modify id context))
+decision s (Unsubscribe id) = decide_unsubscribe (context_of s.contexts id)

@@ -1,27 +1,32 @@
 -- What is decided on a command after a list of commands, the newest first: the order of checks (TS 32.290, 5.3.2; the order is this product's own).
-use Rattle.std.specs.Prelude.{ℕ, ◌==◌, ◌&&◌, nat_le, Bool, true, false, if◌then◌else◌, List, Option, Some, None}
+use Rattle.std.specs.Prelude.{ℕ, ◌+◌, ◌==◌, ◌&&◌, nat_le, Bool, true, false, if◌then◌else◌, List, length, Option, Some, None}
 use Rattle.std.specs.Cmp.Lexicographic.{pointwise}
 use Rattle.std.specs.Prelude.{nat_eq}
 use Rattle.units.specs.declared.request.Operation.{Operation}
 use Rattle.units.specs.declared.request.Operation.TheVariants.{Create, Update, Release}
 use Rattle.units.specs.declared.request.Request.{Request}
+use Rattle.units.specs.declared.spending.SpendContext.{SpendContext}
 use Rattle.accounts.specs.Endings.{count_ending, Until}
 use Rattle.records.specs.Book.{closable}
+use Rattle.counters.specs.Subscriptions.{context_of}
+use Rattle.counters.specs.Watching.{are_known}
 use Rattle.chf_core.specs.declared.command.Command.{Command}
-use Rattle.chf_core.specs.declared.command.Command.TheVariants.{Setup, Charge, Subscriber, TopUp, Expire, CloseRecords}
+use Rattle.chf_core.specs.declared.command.Command.TheVariants.{Setup, Charge, Subscriber, TopUp, Expire, CloseRecords, Subscribe, Modify, Unsubscribe}
+use Rattle.chf_core.specs.declared.command.Outcome.{Outcome}
 use Rattle.chf_core.specs.declared.command.Outcome.TheVariants as outcome
-use Rattle.chf_core.specs.declared.refusal.ChfRefusal.TheVariants.{UnknownAccount, SessionExists, SessionClosed, SequencePassed, UnknownReference, TopUpDiffers}
+use Rattle.chf_core.specs.declared.refusal.ChfRefusal.TheVariants.{UnknownAccount, SessionExists, SessionClosed, SequencePassed, UnknownReference, TopUpDiffers, WrongSupi, UnknownCounter, UnknownSubscription, UserUnknown}
 use Rattle.chf_core.specs.declared.decision.Verdict.{Verdict}
 use Rattle.chf_core.specs.declared.decision.Verdict.TheVariants.{Kept, Known, Refused, Fresh}
 use Rattle.chf_core.specs.declared.session.Session.{Session}
 use Rattle.chf_core.specs.declared.key.Key.{Key}
 use Rattle.chf_core.specs.declared.subscription.Subscription.{Subscription}
 use Rattle.chf_core.specs.declared.subscription.Sum.{Sum}
-use Rattle.chf_core.specs.Operator.{name_eq, subscription_of, account_number, topup_of}
+use Rattle.chf_core.specs.Operator.{name_eq, setup_of, subscription_of, account_number, topup_of}
 use Rattle.chf_core.specs.Sessions.{named_by}
 use Rattle.chf_core.specs.Keys.{key_of, place_of, command_at, is_repeat}
 use Rattle.chf_core.specs.Money.{money, first_reply}
 use Rattle.chf_core.specs.Filed.{book}
+use Rattle.chf_core.specs.Spending.{counters_in, contexts, status_for}
 
 -- whether a verdict finds a command fresh
 abbrev pub is_fresh : Verdict → Bool
@@ -93,6 +98,26 @@ decide_topup account amount (Some number) sum = decide_again account amount sum
 abbrev pub decide_counted : ℕ → Verdict
 decide_counted count = if count == 0 then Known else Fresh outcome.Done
 
+-- a subscription that names a policy counter that is not one of the setup is refused (TS 29.594, 4.2.2.2)
+abbrev pub decide_known : Bool → Outcome → Verdict
+decide_known true told = Fresh told
+decide_known false told = Refused UnknownCounter
+
+-- a subscription to the spending limits of a subscriber that no row names is refused first (TS 29.594, 4.2.2.2)
+abbrev pub decide_subscribe : Option Subscription → Bool → Outcome → Verdict
+decide_subscribe None known told = Refused UserUnknown
+decide_subscribe (Some row) known told = decide_known known told
+
+-- another context under a number that no live subscription has is refused first, then one of another subscriber (TS 29.594, 4.2.2.3)
+abbrev pub decide_modify : Option SpendContext → List ℕ → Bool → Outcome → Verdict
+decide_modify None supi known told = Refused UnknownSubscription
+decide_modify (Some last) supi known told = if name_eq last.supi supi then decide_known known told else Refused WrongSupi
+
+-- only a live subscription can end (TS 29.594, 4.2.3)
+abbrev pub decide_unsubscribe : Option SpendContext → Verdict
+decide_unsubscribe None = Refused UnknownSubscription
+decide_unsubscribe (Some last) = Fresh outcome.Removed
+
 -- the decision on a command
 abbrev pub decision : List Command → Command → Verdict
 decision commands (Setup setup) = Fresh outcome.Done
@@ -101,3 +126,10 @@ decision commands (Subscriber supi account barred) = decide_subscriber (same_row
 decision commands (TopUp id account amount) = decide_topup account amount (account_number commands account) (topup_of commands id)
 decision commands (Expire moment) = decide_counted (count_ending (money commands).reservations (Until moment))
 decision commands (CloseRecords moment) = decide_counted (closable (book commands).sessions)
+decision commands (Subscribe context) =
+    decide_subscribe (subscription_of commands context.supi) (are_known (counters_in (setup_of commands)) context.counters)
+    (outcome.Spending (length (contexts commands) + 1) (status_for commands context))
+decision commands (Modify id context) =
+    decide_modify (context_of (contexts commands) id) context.supi (are_known (counters_in (setup_of commands)) context.counters)
+    (outcome.Spending id (status_for commands context))
+decision commands (Unsubscribe id) = decide_unsubscribe (context_of (contexts commands) id)

@@ -9,6 +9,7 @@ pub mod Sessions
 pub mod Keys
 pub mod Effect
 pub mod Money
+pub mod Spending
 pub mod Decisions
 pub mod Outcomes
 pub mod Laws

@@ -10,7 +10,7 @@ use Rattle.records.specs.Seen.{BookSeen}
 use Rattle.accounts.specs.Ledger.{State as Money, numbers}
 use Rattle.accounts.specs.Making.{AreMakeable}
 use Rattle.chf_core.specs.declared.command.Command.{Command}
-use Rattle.chf_core.specs.declared.command.Command.TheVariants.{Setup, Charge, Subscriber, TopUp, Expire, CloseRecords}
+use Rattle.chf_core.specs.declared.command.Command.TheVariants.{Setup, Charge, Subscriber, TopUp, Expire, CloseRecords, Subscribe, Modify, Unsubscribe}
 use Rattle.chf_core.specs.declared.decision.Change.{Change}
 use Rattle.chf_core.specs.declared.decision.Change.TheVariants as change
 use Rattle.chf_core.specs.declared.decision.Plan.{Plan}
@@ -75,6 +75,9 @@ Writes m (Subscriber supi account barred) (change.Subscriber name groups) =
 Writes m (TopUp id account amount) change.TopUp = ⊤
 Writes m (Expire moment) change.Expire = ⊤
 Writes m (CloseRecords moment) change.CloseRecords = ⊤
+Writes m (Subscribe context) change.Subscribe = ⊤
+Writes m (Modify id context) change.Modify = ⊤
+Writes m (Unsubscribe id) change.Unsubscribe = ⊤
 Writes m other change = ⊥
 
 -- a plan has what comes of a command: its outcome, its moves, which can be made, and what its commit writes besides

@@ -1,11 +1,16 @@
 //! What is answered on a command that is not fresh, by the order of checks.
-ghost use Rattle.std.specs.Prelude.{◌≡◌, ◌-◌, Some, option_copied};
+ghost use Rattle.std.specs.Prelude.{◌≡◌, ◌-◌, ◌==◌, Some, false, option_copied};
 ghost use Rattle.accounts.specs.Endings.{count_ending, Until};
 ghost use Rattle.records.specs.Book.{closable};
+ghost use Rattle.counters.specs.Subscriptions.{context_of};
+ghost use Rattle.counters.specs.Watching.{are_known};
+ghost use Rattle.chf_core.specs.declared.command.Outcome.{Outcome};
 ghost use Rattle.chf_core.specs.Keys.{key};
-ghost use Rattle.chf_core.specs.Decisions.{last_of, at_kept, same_row, decide_subscriber, decide_again, decide_topup, decide_counted};
+ghost use Rattle.chf_core.specs.Decisions.{last_of, at_kept, same_row, decide_subscriber, decide_again, decide_topup, decide_counted, decide_known, decide_subscribe, decide_modify, decide_unsubscribe};
+ghost use Rattle.chf_core.specs.Spending.{counters_in};
 ghost use Rattle.chf_core.specs.State.{at_text, account_named, named_by, key_of, place_of};
 ghost use Rattle.chf_core.specs.Deciding.{decision, at_key, at_place, at_new, at_new_create, at_new_later};
+ghost use Rattle.chf_core.specs.After.{is_setup};
 ghost use Rattle.chf_core.specs.Caches.{answer_by};
 
 use crate::chf::Chf;
@@ -14,7 +19,7 @@ use crate::decision::Decision;
 use crate::refusal::ChfRefusal;
 use crate::session::Session;
 use crate::subscription::{Subscription, Sum};
-use units::{List, Moment, Operation, Request, Text};
+use units::{List, Moment, Operation, Request, SpendContext, Text};
 
 fn last_of(session: Option<&Session>) -> u32
     ensures { result ≡ last_of (option_copied session.entry) }
@@ -93,6 +98,55 @@ impl Chf {
         }
     }
 
+    // ---- subscriptions to spending limits
+
+    // Whether each counter that is named is one of the setup.
+    fn answer_known(&self, named: &List<Text>) -> Option<Decision>
+        requires begun { (self.now.state.count == 0) ≡ false }
+        ensures { (told : Outcome) → result ≡ answer_by (decide_known (are_known (counters_in self.now.state.setup) named.now) told) }
+    {
+        if self.set_up().counters.are_known(named) {
+            None
+        } else {
+            Some(Decision::Refused(ChfRefusal::UnknownCounter))
+        }
+    }
+
+    fn answer_subscribe(&self, context: &SpendContext) -> Option<Decision>
+        requires begun { (self.now.state.count == 0) ≡ false }
+        ensures { (told : Outcome) → result ≡ answer_by (decide_subscribe (at_text self.now.state.subscribers context.now.supi) (are_known (counters_in self.now.state.setup) context.now.counters) told) }
+    {
+        match self.subscribers.get(context.supi.as_str()) {
+            Some(_) => self.answer_known(&context.counters),
+            None => Some(Decision::Refused(ChfRefusal::UserUnknown)),
+        }
+    }
+
+    fn answer_modify(&self, id: u32, context: &SpendContext) -> Option<Decision>
+        requires begun { (self.now.state.count == 0) ≡ false }
+        ensures { (told : Outcome) → result ≡ answer_by (decide_modify (context_of self.now.state.contexts id) context.now.supi (are_known (counters_in self.now.state.setup) context.now.counters) told) }
+    {
+        match self.subscriptions.context(id) {
+            Some(last) => if last.supi == context.supi {
+                self.answer_known(&context.counters)
+            } else {
+                Some(Decision::Refused(ChfRefusal::WrongSupi))
+            },
+            None => Some(Decision::Refused(ChfRefusal::UnknownSubscription)),
+        }
+    }
+
+    fn answer_unsubscribe(&self, id: u32) -> Option<Decision>
+        ensures { result ≡ answer_by (decide_unsubscribe (context_of self.now.state.contexts id)) }
+    {
+        match self.subscriptions.context(id) {
+            Some(_) => None,
+            None => Some(Decision::Refused(ChfRefusal::UnknownSubscription)),
+        }
+    }
+
+    // ---- charging data requests
+
     fn answer_new_later(&self, request: &Request, session: Option<&Session>) -> Option<Decision>
         ensures { result ≡ answer_by (at_new_later self.now.state request.now (option_copied session.entry)) }
     {
@@ -152,6 +206,7 @@ impl Chf {
 
     /// What is answered on a command, `None` where it is fresh.
     pub(crate) fn answer(&self, command: &Command) -> Option<Decision>
+        requires order { is_setup command.now ≡ (self.now.state.count == 0) }
         ensures { result ≡ answer_by (decision self.now.state command.now) }
     {
         match command {
@@ -169,6 +224,9 @@ impl Chf {
             } => self.answer_topup(id, account, *amount),
             Command::Expire { moment } => self.answer_expire(*moment),
             Command::CloseRecords { .. } => self.answer_close(),
+            Command::Subscribe { context } => self.answer_subscribe(context),
+            Command::Modify { id, context } => self.answer_modify(*id, context),
+            Command::Unsubscribe { id } => self.answer_unsubscribe(*id),
         }
     }
 }

@@ -18,6 +18,7 @@ use crate::setup::ChfSetup;
 use crate::subscription::{Subscription, Sum};
 use crate::text_table::TextTable;
 use accounts::Accounts;
+use counters::Subscriptions;
 use rating::Tariffs;
 use records::Book;
 use std::alloc::Global;
@@ -37,6 +38,7 @@ pub struct Chf {
     pub(crate) sessions: Vec<Session>,
     pub(crate) accounts: Accounts,
     pub(crate) book: Book,
+    pub(crate) subscriptions: Subscriptions,
     pub(crate) requests: Vec<KeptRequest>,
     pub(crate) keyed: KeyTable,
 }
@@ -83,6 +85,7 @@ impl Chf {
             sessions: Vec::new(alloc),
             accounts: Accounts::new(alloc),
             book: Book::empty(alloc),
+            subscriptions: Subscriptions::new(alloc),
             requests: Vec::new(alloc),
             keyed: KeyTable::new(alloc),
         }
@@ -139,6 +142,9 @@ impl Chf {
             } => self.commit_topup(id, account, amount, outcome, moves, change),
             Command::Expire { moment } => self.commit_expire(moment, outcome, moves, change),
             Command::CloseRecords { moment } => self.commit_close(moment, outcome, moves, change),
+            Command::Subscribe { context } => self.commit_subscribe(context, outcome, moves, change),
+            Command::Modify { id, context } => self.commit_modify(id, context, outcome, moves, change),
+            Command::Unsubscribe { id } => self.commit_unsubscribe(id, outcome, moves, change),
         }
     }
 

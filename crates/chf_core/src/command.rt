@@ -1,6 +1,6 @@
 //! Commands, and what they come to.
 use crate::setup::ChfSetup;
-use units::{List, Moment, Plain, Reply, Request, Text};
+use units::{List, Moment, Plain, Reply, Request, SpendContext, SpendStatus, Text};
 
 /// What a charging function is told (charging data requests: TS 32.290, 5.3.2; the operator's commands are this product's own).
 #[derive(Clone, PartialEq, Eq, Debug, Drop)]
@@ -34,6 +34,19 @@ pub enum Command {
     CloseRecords {
         moment: Moment,
     },
+    /// A subscription to the spending limits of a subscriber is made (TS 29.594, 4.2.2.2).
+    Subscribe {
+        context: SpendContext,
+    },
+    /// A subscription gets another context (TS 29.594, 4.2.2.3).
+    Modify {
+        id: u32,
+        context: SpendContext,
+    },
+    /// A subscription ends (TS 29.594, 4.2.3).
+    Unsubscribe {
+        id: u32,
+    },
 }
 
 /// What a command comes to (this product's own).
@@ -41,6 +54,13 @@ pub enum Command {
 pub enum Outcome {
     /// The reply to a charging data request.
     Charged(Reply),
+    /// The number of a subscription to spending limits, and the statuses of the counters that it watches.
+    Spending {
+        id: u32,
+        status: SpendStatus,
+    },
+    /// A subscription to spending limits ended.
+    Removed,
     /// An operator's command was carried out.
     Done,
     /// An operator's command changes nothing.
@@ -52,8 +72,9 @@ impl Plain for Command {
     ghost use Rattle.chf_core.specs.contracts.setup.ChfSetupPlain.TheImpl.Laws as setup;
     ghost use Rattle.units.specs.contracts.request.RequestPlain.TheImpl.Laws as request;
     ghost use Rattle.units.specs.contracts.moment.MomentPlain.TheImpl.Laws as moment;
+    ghost use Rattle.units.specs.contracts.spending.SpendContextPlain.TheImpl.Laws as context;
 
-    ghost copies = { Prim.search (rules, setup.copies-law, request.copies-law, moment.copies-law) };
+    ghost copies = { Prim.search (rules, setup.copies-law, request.copies-law, moment.copies-law, context.copies-law) };
 
-    ghost decides = { Prim.search (rules, setup.decides-law, request.decides-law, moment.decides-law) };
+    ghost decides = { Prim.search (rules, setup.decides-law, request.decides-law, moment.decides-law, context.decides-law) };
 }

@@ -35,6 +35,9 @@ pub(crate) enum Change {
     TopUp,
     Expire,
     CloseRecords,
+    Subscribe,
+    Modify,
+    Unsubscribe,
 }
 
 impl Change {

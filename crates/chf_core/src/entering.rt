@@ -1,8 +1,10 @@
 //! What each command's commit writes. Nothing here takes memory.
-ghost use Rattle.std.specs.Prelude.{◌≡◌, ◌<◌, ◌≤◌, ◌+◌, ◌-◌, ◌^◌, ◌&&◌, Some, Option, ℕ, cond, is_some, length, option_map, vec_len, vec_capacity};
+ghost use Rattle.std.specs.Prelude.{◌≡◌, ◌<◌, ◌≤◌, ◌+◌, ◌-◌, ◌^◌, ◌&&◌, Some, None, Option, ℕ, true, cond, is_some, length, option_map, vec_len, vec_capacity};
 ghost use Rattle.chf_core.specs.declared.key.Name.{Name as NameSeen};
 ghost use Rattle.chf_core.specs.declared.key.Key.{Key as KeySeen};
 ghost use Rattle.accounts.specs.Making.{made, AreMakeable};
+ghost use Rattle.counters.specs.Subscriptions.{subscribed, with_context, is_live};
+ghost use Rattle.counters.specs.Watching.{are_known};
 ghost use Rattle.chf_core.specs.Operator.{number_in, with_name};
 ghost use Rattle.chf_core.specs.Sessions.{sessions_after, with_last, write_session, by_reference, name, same_session, id_of};
 ghost use Rattle.chf_core.specs.Keys.{key, key_eq};
@@ -25,7 +27,8 @@ use crate::session::Session;
 use crate::setup::ChfSetup;
 use crate::subscription::{Subscription, Sum};
 use accounts::{Accounts, Moves};
-use units::{List, Moment, Operation, Request, Text};
+use counters::{Counters, Subscriptions};
+use units::{List, Moment, Operation, Request, SpendContext, Text};
 
 fn set_last(session: &mut Session, last: u32, is_open: bool)
     ensures { session.new ≡ with_last last is_open session.old }
@@ -120,6 +123,44 @@ fn number_name(names: &mut Names, name: &str, new: Option<String>)
             let _ = names.add(new);
         }
     }
+}
+
+// A subscription is made, which names known counters alone.
+fn make_subscription(subscriptions: &mut Subscriptions, counters: &Counters, context: SpendContext)
+    requires spare { 0 < subscriptions.old.spare }
+    requires few { length subscriptions.old.contexts < 2 ^ 32 - 1 }
+    requires known { are_known counters.now context.counters ≡ true }
+    ensures { subscriptions.new.contexts ≡ subscribed subscriptions.old.contexts context }
+{
+    let Ok(_) = subscriptions.subscribe(counters, context) else {
+        unreachable!();
+    };
+}
+
+// A live subscription gets another context, which names known counters alone.
+fn modify_subscription(
+    subscriptions: &mut Subscriptions,
+    id: u32,
+    counters: &Counters,
+    context: SpendContext,
+)
+    requires live { is_live subscriptions.old.contexts id ≡ true }
+    requires known { are_known counters.now context.counters ≡ true }
+    ensures { subscriptions.new.contexts ≡ with_context subscriptions.old.contexts id (Some context) }
+{
+    let Ok(_) = subscriptions.modify(id, counters, context) else {
+        unreachable!();
+    };
+}
+
+// A live subscription ends.
+fn end_subscription(subscriptions: &mut Subscriptions, id: u32)
+    requires live { is_live subscriptions.old.contexts id ≡ true }
+    ensures { subscriptions.new.contexts ≡ with_context subscriptions.old.contexts id None }
+{
+    let Ok(_) = subscriptions.remove(id) else {
+        unreachable!();
+    };
 }
 
 impl Chf {
@@ -252,6 +293,55 @@ impl Chf {
         ensures { self.new.state ≡ after self.old.state (Command.CloseRecords moment) }
     {
         let _ = self.book.close_all(moment);
+        self.count += 1;
+    }
+
+    pub(crate) fn commit_subscribe(
+        &mut self,
+        context: SpendContext,
+        outcome: Outcome,
+        moves: Moves,
+        change: Change,
+    )
+        requires { IsReady self.old (record { command = Command.Subscribe context; outcome = outcome; moves = moves; change = change }) }
+        ensures { self.new.state ≡ after self.old.state (Command.Subscribe context) }
+    {
+        let Some(setup) = &self.setup else {
+            unreachable!();
+        };
+        make_subscription(&mut self.subscriptions, &setup.counters, context);
+        self.count += 1;
+    }
+
+    pub(crate) fn commit_modify(
+        &mut self,
+        id: u32,
+        context: SpendContext,
+        outcome: Outcome,
+        moves: Moves,
+        change: Change,
+    )
+        requires { IsReady self.old (record { command = Command.Modify id context; outcome = outcome; moves = moves; change = change }) }
+        ensures { self.new.state ≡ after self.old.state (Command.Modify id context) }
+    {
+        let Some(setup) = &self.setup else {
+            unreachable!();
+        };
+        modify_subscription(&mut self.subscriptions, id, &setup.counters, context);
+        self.count += 1;
+    }
+
+    pub(crate) fn commit_unsubscribe(
+        &mut self,
+        id: u32,
+        outcome: Outcome,
+        moves: Moves,
+        change: Change,
+    )
+        requires { IsReady self.old (record { command = Command.Unsubscribe id; outcome = outcome; moves = moves; change = change }) }
+        ensures { self.new.state ≡ after self.old.state (Command.Unsubscribe id) }
+    {
+        end_subscription(&mut self.subscriptions, id);
         self.count += 1;
     }
 }

@@ -37,8 +37,8 @@ impl Chf {
         self.names.find(account.as_str())
     }
 
-    // The account of a subscriber, by its latest row.
-    fn account_of(&self, supi: &Text) -> Option<u32>
+    /// The account of a subscriber, by its latest row.
+    pub(crate) fn account_of(&self, supi: &Text) -> Option<u32>
         ensures { result ≡ account_of self.now.state supi.now }
     {
         match self.subscribers.get(supi.as_str()) {

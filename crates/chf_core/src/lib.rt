@@ -51,6 +51,7 @@ mod reply;
 mod session;
 mod session_laws;
 mod setup;
+mod spending;
 mod subscription;
 mod target;
 mod text_table;

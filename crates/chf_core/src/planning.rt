@@ -1,7 +1,7 @@
 //! The plan of a fresh command, which makes all the memory that its commit needs.
 ghost use Rattle.std.specs.Prelude.{◌≡◌, ◌<◌, ◌≤◌, ◌-◌, ◌^◌, ◌==◌, IfOk, IfSome, OnOk, IsSome, is_some, Some, true, false};
 ghost use Rattle.accounts.specs.Making.{AreMakeable};
-ghost use Rattle.chf_core.specs.declared.command.Command.TheVariants.{Setup, Charge, Subscriber, TopUp, Expire, CloseRecords};
+ghost use Rattle.chf_core.specs.declared.command.Command.TheVariants.{Setup, Charge, Subscriber, TopUp, Expire, CloseRecords, Subscribe, Modify, Unsubscribe};
 ghost use Rattle.chf_core.specs.Sessions.{supi_of};
 ghost use Rattle.chf_core.specs.Keys.{key};
 ghost use Rattle.records.specs.Groups.{AreApart};
@@ -28,7 +28,7 @@ use crate::setup::ChfSetup;
 use accounts::Moves;
 use records::by_group;
 use std::alloc::Global;
-use units::{List, Moment, Operation, OutOfMemory, Request, Text, UnitUsage, copy};
+use units::{List, Moment, Operation, OutOfMemory, Request, SpendContext, Text, UnitUsage, copy};
 
 // The copy of a name that has no number.
 fn name_for(alloc: Global, names: &Names, name: &Text) -> Result<Option<String>, OutOfMemory>
@@ -281,6 +281,59 @@ impl Chf {
         })
     }
 
+    // ---- of a subscription to spending limits
+
+    fn plan_subscribe(&self, alloc: Global, context: &SpendContext) -> Result<Plan, OutOfMemory>
+        requires begun { (self.now.state.count == 0) ≡ false }
+        requires few { self.now.state.count < 2 ^ 32 - 1 }
+        ensures { IfOk result (IsWorkedOut self.now (Subscribe context.now)) }
+    {
+        let status = self.status_for(alloc, context)?;
+        Ok(Plan {
+            command: Command::Subscribe {
+                context: copy(context)?,
+            },
+            outcome: Outcome::Spending {
+                id: self.next_subscription(),
+                status,
+            },
+            moves: Moves::new(alloc),
+            change: Change::Subscribe,
+        })
+    }
+
+    fn plan_modify(
+        &self,
+        alloc: Global,
+        id: u32,
+        context: &SpendContext,
+    ) -> Result<Plan, OutOfMemory>
+        requires begun { (self.now.state.count == 0) ≡ false }
+        ensures { IfOk result (IsWorkedOut self.now (Modify id context.now)) }
+    {
+        let status = self.status_for(alloc, context)?;
+        Ok(Plan {
+            command: Command::Modify {
+                id,
+                context: copy(context)?,
+            },
+            outcome: Outcome::Spending { id, status },
+            moves: Moves::new(alloc),
+            change: Change::Modify,
+        })
+    }
+
+    fn plan_unsubscribe(&self, alloc: Global, id: u32) -> Result<Plan, OutOfMemory>
+        ensures { IfOk result (IsWorkedOut self.now (Unsubscribe id)) }
+    {
+        Ok(Plan {
+            command: Command::Unsubscribe { id },
+            outcome: Outcome::Removed,
+            moves: Moves::new(alloc),
+            change: Change::Unsubscribe,
+        })
+    }
+
     // ---- of each
 
     // All that comes of a command, worked out.
@@ -305,6 +358,9 @@ impl Chf {
             } => self.plan_topup(alloc, id, account, *amount),
             Command::Expire { moment } => self.plan_expire(alloc, *moment),
             Command::CloseRecords { moment } => self.plan_close(alloc, *moment),
+            Command::Subscribe { context } => self.plan_subscribe(alloc, context),
+            Command::Modify { id, context } => self.plan_modify(alloc, *id, context),
+            Command::Unsubscribe { id } => self.plan_unsubscribe(alloc, *id),
         }
     }
 
@@ -346,8 +402,10 @@ impl Chf {
         let subscribers = self.subscribers.make_room().is_ok();
         let topups = self.topups.make_room().is_ok();
         let keyed = self.keyed.make_room().is_ok();
+        let subscriptions = self.subscriptions.make_room(alloc).is_ok();
         let accounts = self.accounts.make_room(alloc, moves).is_ok();
-        if requests && sessions && names && subscribers && topups && keyed && accounts && book {
+        let known = names && subscribers && topups && keyed;
+        if requests && sessions && known && accounts && book && subscriptions {
             Ok(())
         } else {
             Err(OutOfMemory)

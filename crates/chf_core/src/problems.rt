@@ -25,7 +25,11 @@ pub fn refusal_reply(alloc: Global, refusal: ChfRefusal) -> Result<Option<Reply>
     ensures { IfOk result (λ r. r ≡ refusal_reply refusal) }
 {
     match refusal {
+        ChfRefusal::WrongSupi => Ok(None),
         ChfRefusal::UnknownAccount => Ok(None),
+        ChfRefusal::UnknownCounter => Ok(None),
+        ChfRefusal::UnknownSubscription => Ok(None),
+        ChfRefusal::UserUnknown => Ok(None),
         ChfRefusal::SessionExists => Ok(Some(problem(alloc, 403, Cause::SessionExists)?)),
         ChfRefusal::SessionClosed { .. } => Ok(Some(problem(alloc, 403, Cause::SessionClosed)?)),
         ChfRefusal::SequencePassed { .. } => Ok(Some(problem(alloc, 400, Cause::SequencePassed)?)),

@@ -2,8 +2,16 @@
 /// Why a command is refused (this product's own; causes of charging data requests after TS 32.291, 6.1.7).
 #[derive(Clone, Copy, PartialEq, Eq, Debug)]
 pub enum ChfRefusal {
+    /// E7: the subscriber is not that of the subscription to spending limits.
+    WrongSupi,
     /// E15: no account has this name.
     UnknownAccount,
+    /// E22: a policy counter that is named is not one of the setup.
+    UnknownCounter,
+    /// E23: no live subscription to spending limits has this number.
+    UnknownSubscription,
+    /// E27: no row names the subscriber of a subscription to spending limits.
+    UserUnknown,
     /// E28: the session of a Create exists.
     SessionExists,
     /// E29: the session was released; `last` is its last accepted number.

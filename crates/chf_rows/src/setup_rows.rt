@@ -1,13 +1,15 @@
 //! The rows that set a charging function up.
-ghost use Rattle.std.specs.Prelude.{◌≡◌, ◌<◌, ◌+◌, ◌^◌, [], take, drop, None, IsSome, IfOk, IfErr, Ok, Err, Result, MatchOption};
+ghost use Rattle.std.specs.Prelude.{◌≡◌, ◌<◌, ◌≤◌, ◌+◌, ◌^◌, [], length, take, drop, None, IsSome, IfOk, IfErr, Ok, Err, Result, MatchOption};
 ghost use Rattle.units.specs.Answers.{IsOrNoMemory};
 ghost use Rattle.rating.specs.Grammar.{first_bad};
-ghost use Rattle.chf_rows.specs.Setup.{alone, ending, is_setup_row, limits_answer, limits_place, lacking, naming_row, setup_answer, with_size, with_tariff};
+ghost use Rattle.counters.specs.Grammar as counter;
+ghost use Rattle.chf_rows.specs.Setup.{alone, counters_place, ending, is_counter_row, is_setup_row, limits_answer, limits_place, lacking, naming_row, setup_answer, with_counters, with_size, with_tariff};
 
 use crate::limits::{Limits, limits_place, limits_row};
 use crate::refusal::SetupRefusal;
 use crate::size::first_past;
 use chf_core::ChfSetup;
+use counters::{CounterRefusal, Counters};
 use rating::{RatingRefusal, Tariffs};
 use std::alloc::Global;
 use units::{List, OutOfMemory, Text, copy};
@@ -28,15 +30,40 @@ pub fn is_setup_row(fields: &[Text]) -> bool
 /// The most bytes of setup rows.
 const MOST_BYTES: usize = 65_536;
 
-// The first rows.
-fn front(alloc: Global, rows: &[List<Text>]) -> Result<List<List<Text>>, OutOfMemory>
-    ensures { IfOk result (λ front. front ≡ rows.now) }
+// Some of the rows.
+fn some_rows(alloc: Global, rows: &[List<Text>]) -> Result<List<List<Text>>, OutOfMemory>
+    ensures { IfOk result (λ some. some ≡ rows.now) }
 {
-    let mut front = List::new(alloc);
+    let mut some = List::new(alloc);
     for row in rows {
-        front.push(copy(row)?)?;
+        some.push(copy(row)?)?;
     }
-    Ok(front)
+    Ok(some)
+}
+
+fn is_counter_row(fields: &[Text]) -> bool
+    ensures { result ≡ is_counter_row fields.now }
+{
+    match fields {
+        [word, ..] => word.as_str() == "counter",
+        [] => false,
+    }
+}
+
+// How many rows stand before the first row of a policy counter.
+fn counters_place(rows: &[List<Text>]) -> usize
+    ensures value { result ≡ counters_place rows.now }
+    ensures within { result ≤ length rows.now }
+    ensures small { result < 2 ^ 63 }
+{
+    let mut place = 0;
+    for row in rows {
+        if is_counter_row(row.as_slice()) {
+            return place;
+        }
+        place += 1;
+    }
+    place
 }
 
 // A limits row under this number, and nothing after it.
@@ -53,20 +80,39 @@ fn alone(limits: Option<Limits>, number: usize, rows: &[List<Text>]) -> Result<L
     }
 }
 
-// The limits row that ends a setup whose tariff has that many rows.
-fn ending(tariff: usize, rows: &[List<Text>]) -> Result<Result<Limits, usize>, OutOfMemory>
-    requires { tariff < 2 ^ 63 }
-    ensures { IfOk result (λ end. end ≡ ending tariff rows.now) }
+// The limits row that ends a setup with that many rows before it.
+fn ending(front: usize, rows: &[List<Text>]) -> Result<Result<Limits, usize>, OutOfMemory>
+    requires { front < 2 ^ 63 }
+    ensures { IfOk result (λ end. end ≡ ending front rows.now) }
 {
     match rows {
-        [row, rest @ ..] => Ok(alone(limits_row(row.as_slice())?, tariff + 1, rest)),
-        [] => Ok(Err(tariff + 1)),
+        [row, rest @ ..] => Ok(alone(limits_row(row.as_slice())?, front + 1, rest)),
+        [] => Ok(Err(front + 1)),
     }
 }
 
-fn with_tariff(tariff: usize, bad: Option<u32>, end: Result<Limits, usize>) -> Result<Limits, usize>
+fn with_counters(
+    tariff: usize,
+    bad: Option<u32>,
+    end: Result<Limits, usize>,
+) -> Result<Limits, usize>
     requires { tariff < 2 ^ 63 }
-    ensures { result ≡ with_tariff tariff bad end }
+    ensures { result ≡ with_counters tariff bad end }
+{
+    match bad {
+        None => end,
+        Some(row) => Err(tariff + row as usize),
+    }
+}
+
+fn with_tariff(
+    tariff: usize,
+    front: usize,
+    bad: Option<u32>,
+    end: Result<Limits, usize>,
+) -> Result<Limits, usize>
+    requires { front < 2 ^ 63 }
+    ensures { result ≡ with_tariff tariff front bad end }
 {
     match bad {
         None => end,
@@ -74,7 +120,7 @@ fn with_tariff(tariff: usize, bad: Option<u32>, end: Result<Limits, usize>) -> R
             Err(row as usize)
         } else {
             match end {
-                Ok(_) => Err(tariff + 2),
+                Ok(_) => Err(front + 2),
                 Err(row) => Err(row),
             }
         },
@@ -108,28 +154,47 @@ fn tariffs(
     }
 }
 
+// The first bad row of the policy counters and, where there is none, the counters.
+fn counters(
+    alloc: Global,
+    rows: &List<List<Text>>,
+) -> Result<(Option<u32>, Option<Counters>), OutOfMemory>
+    ensures bad { IfOk result (λ both. both.0 ≡ counter.first_bad [] rows.now) }
+    ensures good { IfOk result (λ both. MatchOption both.1 (IsSome both.0) (λ t. (t ≡ rows.now) × (both.0 ≡ None))) }
+{
+    match Counters::read(alloc, rows) {
+        Ok(counters) => Ok((None, Some(counters))),
+        Err(CounterRefusal::BadRow { row }) => Ok((Some(row), None)),
+        Err(_) => Err(OutOfMemory),
+    }
+}
+
 /// The setup that rows give.
 ///
 /// # Errors
 ///
-/// `BadRow` names the first row, counted from 1, that is not accepted: first the rows of a tariff, then one limits row, and nothing after it, of at
-/// most 65,536 bytes together.
+/// `BadRow` names the first row, counted from 1, that is not accepted: first the rows of a tariff, then those of the policy
+/// counters, then one limits row, and nothing after it, of at most 65,536 bytes together.
 pub fn read_setup(alloc: Global, rows: &[List<Text>]) -> Result<ChfSetup, SetupRefusal>
     ensures { IsOrNoMemory SetupRefusal.OutOfMemory result (naming_row (setup_answer rows.now)) }
 {
     let place = limits_place(rows);
-    let front = front(alloc, &rows[..place])?;
-    let (bad, tariffs) = tariffs(alloc, &front)?;
-    let end = with_tariff(place, bad, ending(place, &rows[place..])?);
+    let front = &rows[..place];
+    let tariff = counters_place(front);
+    let (bad_tariff, tariffs) = tariffs(alloc, &some_rows(alloc, &front[..tariff])?)?;
+    let (bad_counter, counters) = counters(alloc, &some_rows(alloc, &front[tariff..])?)?;
+    let counted = with_counters(tariff, bad_counter, ending(place, &rows[place..])?);
+    let end = with_tariff(tariff, place, bad_tariff, counted);
     match with_size(first_past(MOST_BYTES, rows), end) {
-        Ok(limits) => match tariffs {
-            Some(tariffs) => Ok(ChfSetup {
+        Ok(limits) => match (tariffs, counters) {
+            (Some(tariffs), Some(counters)) => Ok(ChfSetup {
                 tariffs,
+                counters,
                 limits: limits.records,
                 grace: limits.grace,
                 failover: limits.failover,
             }),
-            None => unreachable!(),
+            _ => unreachable!(),
         },
         Err(row) => Err(SetupRefusal::BadRow { row }),
     }

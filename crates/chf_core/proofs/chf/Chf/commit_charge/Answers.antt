@@ -71,5 +71,6 @@ invariant_of-self c =
       numbered = subst (λ (l : List Session). AreNumbered (length l) c.file.new.book.records.sessions) (sym after)
           (subst (λ (r : Records). AreNumbered (length (sessions_after q.operation q account ss)) r.sessions) (sym (c.file.ensures.records ∙ (λ j. filed t.book.limits (filings_by q.operation (len j) q (is_some c.in-Charge.names)) t.book.records)))
           (numbered_filed t.book.limits q.operation (length ss) _ q (is_some c.in-Charge.names) t.book.records (sessions_stay q.operation q account ss) (λ e. session_opens q.operation q account ss (sym opens ∙ e)) i.numbered));
+      made = let made = i.made in omega arith;
       few = let one = one_after q.operation q account ss in let same = ap length after in let few = i.few in omega arith;
     }

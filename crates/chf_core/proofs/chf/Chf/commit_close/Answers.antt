@@ -26,6 +26,7 @@ invariant_of-self c =
       below = below_next t.count t.requests.items i.below;
       owned = subst IsOwned (sym new_is) (owned_after c.args.self.now.state (CloseRecords c.args.moment) (subst IsOwned (ap (λ (x : Machine). x.state) c.self.view_is) i.owned));
       few = let few = i.few in omega arith;
+      made = let made = i.made in omega arith;
       limited = c.close_all.ensures.limits ∙ i.limited;
       numbered = subst (λ (r : Records). AreNumbered (length t.sessions.items) r.sessions) (sym c.close_all.ensures.records)
           (all_swept_numbered (length t.sessions.items) t.book.records.sessions c.args.moment t.book.records.closed i.numbered);

@@ -25,6 +25,7 @@ invariant_of-self c =
       below = below_next t.count t.requests.items i.below;
       owned = subst IsOwned (sym new_is) (owned_after c.args.self.now.state (Setup c.args.setup) (subst IsOwned (ap (λ (x : Machine). x.state) c.self.view_is) i.owned));
       few = let few = i.few in omega arith;
+      made = let made = i.made in omega arith;
       limited = c.limit.ensures.limits ∙ (subst (Writes c.args.self.now (Setup c.args.setup)) c.in-Setup.is c.requires.worked_out.change);
       numbered = subst (λ (r : Records). AreNumbered (length t.sessions.items) r.sessions) (sym c.limit.ensures.records) i.numbered;
     }

@@ -23,6 +23,7 @@ invariant_of-self c =
       below = below_next t.count t.requests.items i.below;
       owned = subst IsOwned (sym new_is) (owned_after c.args.self.now.state (Subscriber c.args.supi c.args.account c.args.barred) (subst IsOwned (ap (λ (x : Machine). x.state) c.self.view_is) i.owned));
       few = let few = i.few in omega arith;
+      made = let made = i.made in omega arith;
       limited = i.limited;
       numbered = i.numbered;
     }

@@ -12,9 +12,9 @@ use Rattle.chf_core.proofs.chf.Chf.new.Goals as goal
 
 pub invariant_of-result : goal.invariant_of-result
 invariant_of-result c =
-    let k = c.new-7.ensures in
+    let k = c.new-8.ensures in
     let sessions = c.new-4.ensures.items in
-    let requests = c.new-6.ensures.items in
+    let requests = c.new-7.ensures.items in
     record {
       set_up = λ e. absurd (cc);
       unbarred = c.none.ensures;
@@ -25,6 +25,7 @@ invariant_of-result c =
       below = subst (AreBelow 0) (sym requests) tt;
       owned = subst (λ (s : State). IsOwned s) (sym (λ i. record nothing_yet { sessions = sessions i; money = c.new-5.ensures i; book = c.empty.ensures.records i })) (λ x. subst (λ o. IfSome o (λ r. option_map (λ (z : Session). z.account) (session_at nothing_yet x.session) ≡ Some r.account)) (sym (map.get-empty key_cmp x)) tt);
       few = let e = ap length sessions in omega arith;
+      made = let e = ap length c.new-6.ensures in omega arith;
       limited = c.empty.ensures.limits;
       numbered = none_numbered _ _ c.empty.ensures.records;
     }
