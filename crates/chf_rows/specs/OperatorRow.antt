@@ -3,19 +3,7 @@ use Rattle.std.specs.Prelude.{ℕ, ◌-◌, ◌^◌, nat_le, nat_lt, bytes_eq, L
 use Rattle.rows.specs.Number.{number_of}
 use Rattle.chf_core.specs.declared.command.Command.{Command}
 use Rattle.chf_core.specs.declared.command.Command.TheVariants.{Subscriber, TopUp, Expire, CloseRecords}
-use Rattle.rows.specs.Pieces.{pieces}
-use Rattle.chf_rows.specs.Size.{row_size}
-use Rattle.chf_rows.specs.Setup.{name_of}
-
--- rating groups, each a number
-abbrev pub groups_in : List (List ℕ) → Option (List ℕ)
-groups_in [] = Some []
-groups_in (piece ∷ pieces) = option_and_then (λ group. option_map (λ groups. group ∷ groups) (groups_in pieces)) (number_of (2 ^ 32 - 1) piece)
-
--- rating groups separated by single spaces; there may be none, and one may repeat
-abbrev pub groups_of : List ℕ → Option (List ℕ)
-groups_of [] = Some []
-groups_of (byte ∷ field) = groups_in (pieces 32 (byte ∷ field))
+use Rattle.row_fields.specs.Fields.{groups_of, name_of, row_size}
 
 -- a subscriber's row: its SUPI, its account and the barred groups
 abbrev pub subscriber_of : List (List ℕ) → Option Command

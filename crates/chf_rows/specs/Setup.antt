@@ -2,7 +2,7 @@
 -- `limits,VOLUME,SECONDS,CHANGES,CONTAINERS,GRACE,NAME,FAILOVER` (this product's own).
 use Rattle.std.specs.Prelude.{ℕ, ◌+◌, ◌-◌, ◌^◌, ◌||◌, min, nat_le, bytes_eq, Bool, false, List, [], ◌∷◌, take, drop, Option, Some, None, Result, Ok, Err, if◌then◌else◌, option_and_then, codes}
 use Rattle.rows.specs.Number.{number_of}
-use Rattle.units.specs.Names.{spells_name}
+use Rattle.row_fields.specs.Fields.{name_of}
 use Rattle.units.specs.Words.{failover_named}
 use Rattle.rating.specs.Grammar.{first_bad}
 use Rattle.counters.specs.Grammar as counter
@@ -17,10 +17,6 @@ use Rattle.chf_rows.specs.Size.{first_past}
 abbrev pub is_setup_row : List (List ℕ) → Bool
 is_setup_row [] = false
 is_setup_row (word ∷ fields) = bytes_eq word (codes "group") || (bytes_eq word (codes "price") || (bytes_eq word (codes "counter") || bytes_eq word (codes "limits")))
-
--- a name
-abbrev pub name_of : List ℕ → Option (List ℕ)
-name_of field = if spells_name field then Some field else None
 
 -- the numbers and the word of a limits row: of a record its octets, seconds, changes and containers, 0 for no limit; the
 -- seconds after a quota's validity until it is given back; failover

@@ -6,7 +6,6 @@
 //! further kind of row goes into one of these definitions and one function.
 #![tactic(auto)]
 
-mod fields;
 mod limits;
 mod operator_row;
 mod refusal;

@@ -1,12 +1,11 @@
 //! The limits row of a setup.
 ghost use Rattle.std.specs.Prelude.{◌≡◌, ◌≤◌, ◌<◌, ◌^◌, IfOk, length, option_map};
-ghost use Rattle.rows.specs.Number.{number_of};
 ghost use Rattle.chf_rows.specs.Setup.{bounds_of, is_limits_row, limits_by, limits_of, limits_place, limits_row, limits_with};
 
-use crate::fields::{failover, name};
 use records::RecordLimits;
+use row_fields::{name, small};
 use rows::number;
-use units::{List, OutOfMemory, Text, copy};
+use units::{List, OutOfMemory, Text, copy, failover_named};
 
 /// What a limits row says.
 #[derive(Clone, PartialEq, Eq, Debug, Drop)]
@@ -27,12 +26,6 @@ struct Bounds {
     failover: bool,
 }
 
-fn small(most: u32, field: &Text) -> Option<u32>
-    ensures { result ≡ number_of most field.now }
-{
-    Some(number(u64::from(most), field.as_str().as_bytes())? as u32)
-}
-
 // The numbers and the word of a limits row.
 fn bounds_of(
     volume: &Text,
@@ -49,7 +42,7 @@ fn bounds_of(
     let changes = small(u32::MAX, changes)?;
     let containers = small(u32::MAX, containers)?;
     let grace = small(604_800, grace)?;
-    let failover = failover(word)?;
+    let failover = failover_named(word.as_str())?;
     Some(Bounds {
         volume,
         seconds,

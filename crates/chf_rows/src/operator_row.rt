@@ -1,44 +1,13 @@
 //! The commands that an operator's rows give.
 ghost use Rattle.std.specs.Prelude.{◌≡◌, false, IfOk, IfSome, option_map};
 ghost use Rattle.chf_core.specs.After.{is_setup};
-ghost use Rattle.chf_rows.specs.OperatorRow.{amount_of, close_of, command_in, command_of, expire_of, groups_in, groups_of, subscriber_of, topup_of};
-ghost use Rattle.rows.specs.Pieces.{pieces};
+ghost use Rattle.chf_rows.specs.OperatorRow.{amount_of, close_of, command_in, command_of, expire_of, subscriber_of, topup_of};
 
-use crate::fields::name;
-use crate::size::row_size;
 use chf_core::Command;
-use rows::{number, piece_length, wide_number};
+use row_fields::{groups, moment, name, row_size};
+use rows::wide_number;
 use std::alloc::Global;
-use units::{List, Moment, OutOfMemory, Text, copy};
-
-// The rating groups that are the pieces between single spaces.
-fn groups_in(alloc: Global, field: &[u8]) -> Result<Option<List<u32>>, OutOfMemory>
-    ensures { IfOk result (λ o. o ≡ groups_in (pieces 32 field.now)) }
-{
-    let mut groups = List::new(alloc);
-    let mut rest = field;
-    loop {
-        let count = piece_length(b' ', rest);
-        let Some(group) = number(u64::from(u32::MAX), &rest[..count]) else {
-            return Ok(None);
-        };
-        groups.push(group as u32)?;
-        if count >= rest.len() {
-            return Ok(Some(groups));
-        }
-        rest = &rest[count + 1..];
-    }
-}
-
-// The rating groups of a field.
-fn groups(alloc: Global, field: &[u8]) -> Result<Option<List<u32>>, OutOfMemory>
-    ensures { IfOk result (λ o. o ≡ groups_of field.now) }
-{
-    match field {
-        [] => Ok(Some(List::new(alloc))),
-        _ => groups_in(alloc, field),
-    }
-}
+use units::{OutOfMemory, Text, copy};
 
 fn subscriber(alloc: Global, fields: &[Text]) -> Result<Option<Command>, OutOfMemory>
     ensures value { IfOk result (λ o. o ≡ subscriber_of fields.now) }
@@ -89,8 +58,8 @@ fn expire(fields: &[Text]) -> Option<Command>
     ensures later { IfSome result (λ c. is_setup c ≡ false) }
 {
     match fields {
-        [moment] => Some(Command::Expire {
-            moment: Moment::new(number(Moment::LAST, moment.as_str().as_bytes())?)?,
+        [when] => Some(Command::Expire {
+            moment: moment(when)?,
         }),
         _ => None,
     }
@@ -101,8 +70,8 @@ fn close(fields: &[Text]) -> Option<Command>
     ensures later { IfSome result (λ c. is_setup c ≡ false) }
 {
     match fields {
-        [moment] => Some(Command::CloseRecords {
-            moment: Moment::new(number(Moment::LAST, moment.as_str().as_bytes())?)?,
+        [when] => Some(Command::CloseRecords {
+            moment: moment(when)?,
         }),
         _ => None,
     }

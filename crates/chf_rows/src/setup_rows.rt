@@ -3,7 +3,7 @@ ghost use Rattle.std.specs.Prelude.{◌≡◌, ◌<◌, ◌≤◌, ◌+◌, ◌^
 ghost use Rattle.units.specs.Answers.{IsOrNoMemory};
 ghost use Rattle.rating.specs.Grammar.{first_bad};
 ghost use Rattle.counters.specs.Grammar as counter;
-ghost use Rattle.chf_rows.specs.Setup.{alone, counters_place, ending, is_counter_row, is_setup_row, limits_answer, limits_place, lacking, naming_row, setup_answer, with_counters, with_size, with_tariff};
+ghost use Rattle.chf_rows.specs.Setup.{alone, counters_of, counters_place, ending, front_of, is_counter_row, is_setup_row, limits_answer, limits_place, lacking, naming_row, setup_answer, tariff_of, with_counters, with_size, with_tariff};
 
 use crate::limits::{Limits, limits_place, limits_row};
 use crate::refusal::SetupRefusal;
@@ -169,6 +169,47 @@ fn counters(
     }
 }
 
+// The rows before the limits row.
+fn front(rows: &[List<Text>]) -> &[List<Text>]
+    ensures { result.now ≡ front_of rows.now }
+{
+    &rows[..limits_place(rows)]
+}
+
+// Of these, the rows of the tariff.
+fn tariff_rows(rows: &[List<Text>]) -> &[List<Text>]
+    ensures { result.now ≡ tariff_of (front_of rows.now) }
+{
+    let front = front(rows);
+    &front[..counters_place(front)]
+}
+
+// And those of the policy counters.
+fn counter_rows(rows: &[List<Text>]) -> &[List<Text>]
+    ensures { result.now ≡ counters_of (front_of rows.now) }
+{
+    let front = front(rows);
+    &front[counters_place(front)..]
+}
+
+// The limits of a setup whose first bad rows these are, or its first bad row.
+fn limits_answer(
+    rows: &[List<Text>],
+    bad_tariff: Option<u32>,
+    bad_counter: Option<u32>,
+) -> Result<Result<Limits, usize>, OutOfMemory>
+    requires tariff { bad_tariff ≡ first_bad [] (tariff_of (front_of rows.now)) }
+    requires counters { bad_counter ≡ counter.first_bad [] (counters_of (front_of rows.now)) }
+    ensures value { IfOk result (λ answer. answer ≡ limits_answer rows.now) }
+    ensures good { IfOk result (λ answer. IfOk answer (λ _. (bad_tariff ≡ None) × (bad_counter ≡ None))) }
+{
+    let place = limits_place(rows);
+    let tariff = counters_place(front(rows));
+    let counted = with_counters(tariff, bad_counter, ending(place, &rows[place..])?);
+    let end = with_tariff(tariff, place, bad_tariff, counted);
+    Ok(with_size(first_past(MOST_BYTES, rows), end))
+}
+
 /// The setup that rows give.
 ///
 /// # Errors
@@ -178,14 +219,9 @@ fn counters(
 pub fn read_setup(alloc: Global, rows: &[List<Text>]) -> Result<ChfSetup, SetupRefusal>
     ensures { IsOrNoMemory SetupRefusal.OutOfMemory result (naming_row (setup_answer rows.now)) }
 {
-    let place = limits_place(rows);
-    let front = &rows[..place];
-    let tariff = counters_place(front);
-    let (bad_tariff, tariffs) = tariffs(alloc, &some_rows(alloc, &front[..tariff])?)?;
-    let (bad_counter, counters) = counters(alloc, &some_rows(alloc, &front[tariff..])?)?;
-    let counted = with_counters(tariff, bad_counter, ending(place, &rows[place..])?);
-    let end = with_tariff(tariff, place, bad_tariff, counted);
-    match with_size(first_past(MOST_BYTES, rows), end) {
+    let (bad_tariff, tariffs) = tariffs(alloc, &some_rows(alloc, tariff_rows(rows))?)?;
+    let (bad_counter, counters) = counters(alloc, &some_rows(alloc, counter_rows(rows))?)?;
+    match limits_answer(rows, bad_tariff, bad_counter)? {
         Ok(limits) => match (tariffs, counters) {
             (Some(tariffs), Some(counters)) => Ok(ChfSetup {
                 tariffs,
