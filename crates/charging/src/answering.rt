@@ -75,12 +75,7 @@ fn push_command(
 }
 
 // A problem that says this cause.
-fn caused(
-    alloc: Global,
-    status: u16,
-    cause: &str,
-    field: Option<&str>,
-) -> Result<Reply, AllocError>
+fn caused(alloc: Global, status: u16, cause: &str, field: Option<&str>) -> Result<Reply, AllocError>
     ensures { IfOk result (λ r. r ≡ reply.Refused (record { status = status; cause = cause.now; detail = option_map (λ t. t.now) field.entry })) }
 {
     let detail = match field {
@@ -128,11 +123,7 @@ fn push_refusal(alloc: Global, refusal: ChfRefusal, out: &mut Vec<u8>) -> Result
 }
 
 // Writes the reply that a kept request came to.
-fn push_kept(
-    alloc: Global,
-    outcome: Option<&Outcome>,
-    out: &mut Vec<u8>,
-) -> Result<(), OutOfMemory>
+fn push_kept(alloc: Global, outcome: Option<&Outcome>, out: &mut Vec<u8>) -> Result<(), OutOfMemory>
     ensures { OnOk result (out.new.items ≡ out.old.items ++ message_line (option_map response_of (option_and_then reply_of (option_copied outcome.entry)))) }
 {
     match outcome {

@@ -92,11 +92,7 @@ pub fn push_made(
 }
 
 /// Writes the line of a subscription that has another context, whose counters ascend.
-pub fn push_given(
-    alloc: Global,
-    status: &SpendStatus,
-    out: &mut Vec<u8>,
-) -> Result<(), OutOfMemory>
+pub fn push_given(alloc: Global, status: &SpendStatus, out: &mut Vec<u8>) -> Result<(), OutOfMemory>
     requires { IsTrue (do_ascend (infos_fields status.now.infos)) }
     ensures { OnOk result (out.new.items ≡ out.old.items ++ response_line (given_response status.now)) }
 {

@@ -94,11 +94,7 @@ fn modify_in(alloc: Global, id: u32, body: &[u8]) -> Result<Result<Command, Repl
     }
 }
 
-fn command_in(
-    alloc: Global,
-    call: Call,
-    body: &[u8],
-) -> Result<Result<Command, Reply>, OutOfMemory>
+fn command_in(alloc: Global, call: Call, body: &[u8]) -> Result<Result<Command, Reply>, OutOfMemory>
     ensures command { IfOk result (λ r. r ≡ command_in call body.now) }
     ensures later { IfOk result (λ r. IfOk r (λ c. is_setup c ≡ false)) }
 {

@@ -142,8 +142,12 @@ impl Chf {
             } => self.commit_topup(id, account, amount, outcome, moves, change),
             Command::Expire { moment } => self.commit_expire(moment, outcome, moves, change),
             Command::CloseRecords { moment } => self.commit_close(moment, outcome, moves, change),
-            Command::Subscribe { context } => self.commit_subscribe(context, outcome, moves, change),
-            Command::Modify { id, context } => self.commit_modify(id, context, outcome, moves, change),
+            Command::Subscribe { context } => self.commit_subscribe(
+                context, outcome, moves, change,
+            ),
+            Command::Modify { id, context } => self.commit_modify(
+                id, context, outcome, moves, change,
+            ),
             Command::Unsubscribe { id } => self.commit_unsubscribe(id, outcome, moves, change),
         }
     }

@@ -55,10 +55,7 @@ pub enum Outcome {
     /// The reply to a charging data request.
     Charged(Reply),
     /// The number of a subscription to spending limits, and the statuses of the counters that it watches.
-    Spending {
-        id: u32,
-        status: SpendStatus,
-    },
+    Spending { id: u32, status: SpendStatus },
     /// A subscription to spending limits ended.
     Removed,
     /// An operator's command was carried out.
