@@ -56,47 +56,104 @@ fn words(rt: &HostRuntime) -> Result<(String, List<u64>), OutOfMemory> {
 }
 
 // The checksum of that many turns of a call over messages, where there is such a call.
-fn messages(
-    alloc: Global,
-    call: &str,
-    entries: u64,
-    turns: u64,
-) -> Result<Option<u64>, OutOfMemory> {
+fn messages(alloc: Global, call: &str, numbers: &[u64]) -> Result<Option<u64>, OutOfMemory> {
+    let [entries, turns] = numbers else {
+        return Ok(None);
+    };
     match call {
-        "json-read" => read_requests(alloc, entries, 0, turns).map(Some),
-        "json-read-used" => read_requests(alloc, entries, 4, turns).map(Some),
-        "json-size-used" => request_size(alloc, entries, 4).map(Some),
-        "json-parse" => parsed_values(alloc, entries, turns).map(Some),
-        "json-write" => written_replies(alloc, entries, turns).map(Some),
-        "json-print" => printed_values(alloc, entries, turns).map(Some),
+        "json-read" => read_requests(alloc, *entries, 0, *turns).map(Some),
+        "json-read-used" => read_requests(alloc, *entries, 4, *turns).map(Some),
+        "json-size-used" => request_size(alloc, *entries, 4).map(Some),
+        "json-parse" => parsed_values(alloc, *entries, *turns).map(Some),
+        "json-write" => written_replies(alloc, *entries, *turns).map(Some),
+        "json-print" => printed_values(alloc, *entries, *turns).map(Some),
+        _ => Ok(None),
+    }
+}
+
+// The same of elements of records.
+fn elements(alloc: Global, call: &str, numbers: &[u64]) -> Result<Option<u64>, OutOfMemory> {
+    let [count] = numbers else {
+        return Ok(None);
+    };
+    match call {
+        "ber-read" => Ok(Some(read_records(alloc, *count)?)),
+        "ber-write" => Ok(Some(written_records(alloc, *count)?)),
+        "ber-hash" => Ok(Some(hashed_records(alloc, *count)?)),
+        "ber-sum" => Ok(Some(summed_records(alloc, *count)?)),
+        _ => Ok(None),
+    }
+}
+
+// The same of streams of messages.
+fn streams(alloc: Global, call: &str, numbers: &[u64]) -> Result<Option<u64>, OutOfMemory> {
+    match (call, numbers) {
+        ("wire-read", [piece, turns]) => Ok(Some(read_messages(alloc, *piece, *turns)?)),
+        ("wire-parse", [turns]) => Ok(Some(parsed_heads(alloc, *turns)?)),
+        ("wire-fronts", [turns]) => Ok(Some(parsed_fronts(*turns))),
+        _ => Ok(None),
+    }
+}
+
+// The same of moments.
+fn moments(call: &str, numbers: &[u64]) -> Option<u64> {
+    let [turns] = numbers else {
+        return None;
+    };
+    match call {
+        "moments-read" => Some(read_texts(*turns)),
+        "moments-write" => Some(written_texts(*turns)),
+        "moments-copy" => Some(copied_texts(*turns)),
+        _ => None,
+    }
+}
+
+// The same of the machines of both ends.
+fn machines(alloc: Global, call: &str, numbers: &[u64]) -> Result<Option<u64>, OutOfMemory> {
+    let [sessions, turns] = numbers else {
+        return Ok(None);
+    };
+    match call {
+        "chf" => chf_turns(alloc, *sessions, *turns).map(Some),
+        "smf" => smf_turns(alloc, *sessions, *turns).map(Some),
+        "smf-meter" => meter_turns(alloc, *sessions, *turns).map(Some),
+        _ => Ok(None),
+    }
+}
+
+// The same of prices, quotas and accounts.
+fn money(alloc: Global, call: &str, numbers: &[u64]) -> Result<Option<u64>, OutOfMemory> {
+    match (call, numbers) {
+        ("rating", [groups, periods, turns]) => prices(alloc, *groups, *periods, *turns).map(Some),
+        ("accounts", [sessions, groups, active, turns]) => {
+            charges(alloc, *sessions, *groups, *active, *turns).map(Some)
+        }
+        ("table", [keys, turns]) => table_turns(alloc, *keys, *turns).map(Some),
+        ("quotas", [turns]) => Ok(Some(turns_of_use(alloc, *turns))),
         _ => Ok(None),
     }
 }
 
 // The checksum of that many turns of a call, where there is such a call.
 fn checksum(alloc: Global, call: &str, numbers: &[u64]) -> Result<Option<u64>, OutOfMemory> {
-    match (call, numbers) {
-        ("rating", [groups, periods, turns]) => prices(alloc, *groups, *periods, *turns).map(Some),
-        ("accounts", [sessions, groups, active, turns]) => {
-            charges(alloc, *sessions, *groups, *active, *turns).map(Some)
-        }
-        ("chf", [sessions, updates]) => chf_turns(alloc, *sessions, *updates).map(Some),
-        ("smf", [sessions, turns]) => smf_turns(alloc, *sessions, *turns).map(Some),
-        ("smf-meter", [sessions, turns]) => meter_turns(alloc, *sessions, *turns).map(Some),
-        ("table", [keys, turns]) => table_turns(alloc, *keys, *turns).map(Some),
-        ("ber-read", [count]) => Ok(Some(read_records(alloc, *count)?)),
-        ("ber-write", [count]) => Ok(Some(written_records(alloc, *count)?)),
-        ("ber-hash", [count]) => Ok(Some(hashed_records(alloc, *count)?)),
-        ("ber-sum", [count]) => Ok(Some(summed_records(alloc, *count)?)),
-        ("wire-read", [piece, turns]) => Ok(Some(read_messages(alloc, *piece, *turns)?)),
-        ("wire-parse", [turns]) => Ok(Some(parsed_heads(alloc, *turns)?)),
-        ("wire-fronts", [turns]) => Ok(Some(parsed_fronts(*turns))),
-        ("quotas", [turns]) => Ok(Some(turns_of_use(alloc, *turns))),
-        ("moments-read", [turns]) => Ok(Some(read_texts(*turns))),
-        ("moments-write", [turns]) => Ok(Some(written_texts(*turns))),
-        ("moments-copy", [turns]) => Ok(Some(copied_texts(*turns))),
-        (call, [entries, turns]) => messages(alloc, call, *entries, *turns),
-        _ => Ok(None),
+    if call.starts_with("json-") {
+        return messages(alloc, call, numbers);
+    }
+    if call.starts_with("ber-") {
+        return elements(alloc, call, numbers);
+    }
+    if call.starts_with("records-") {
+        return record_turns(alloc, call, numbers);
+    }
+    if call.starts_with("wire-") {
+        return streams(alloc, call, numbers);
+    }
+    if call.starts_with("moments-") {
+        return Ok(moments(call, numbers));
+    }
+    match machines(alloc, call, numbers)? {
+        Some(sum) => Ok(Some(sum)),
+        None => money(alloc, call, numbers),
     }
 }
 
@@ -162,8 +219,6 @@ fn run(rt: &HostRuntime) -> io::Result<ExitCode> {
     }
     let found = if call.as_str() == "json-lines" {
         lines(rt)
-    } else if call.as_str().starts_with("records-") {
-        record_turns(rt.alloc(), call.as_str(), numbers.as_slice())
     } else if call.as_str().starts_with("journal-") {
         Ok(journal(rt, call.as_str(), numbers.as_slice())?)
     } else {

@@ -19,3 +19,4 @@ pub mod Tables
 pub mod Ranges
 pub mod Causes
 pub mod Answered
+pub mod Left

@@ -91,7 +91,7 @@ ended_at_start st.InComment c = picked (c == 10) (st.StartRecord, act.Skip) (st.
 ended_at_start st.AfterCr c = picked (c == 10) (st.StartRecord, act.Skip) (start_record default_config c) (goes_on (st.StartRecord, act.Skip) refl) (start_record_ends c)
 
 -- what is read of a record leaves no more bytes than there were, in such a state
-read_less : (s : State) (fields : List (List ℕ)) (field xs : List ℕ) (read : Read) → next_record default_config s fields field xs ≡ Some read → (ends_at_end read.1 ≡ false) × (length read.2 ≤ length xs)
+pub read_less : (s : State) (fields : List (List ℕ)) (field xs : List ℕ) (read : Read) → next_record default_config s fields field xs ≡ Some read → (ends_at_end read.1 ≡ false) × (length read.2 ≤ length xs)
 unfolding next_record
 read_less s fields field [] read e = by (ends_at_end s) refl
   where
@@ -129,7 +129,7 @@ read_some s (c ∷ rest) read start e = by (is_end (step default_config s c).1) 
         let all = read_less (step default_config s c).0 (fields_after (step default_config s c).1 [] []) (field_after (step default_config s c).1 c []) rest read (rw t at e) in
         (all.0, omega (arith, all.1))
 
-records_from_here : (n : ℕ) (s : State) (xs : List ℕ) → ends_at_end s ≡ false → length xs < n → (rows : List (List (List ℕ))) × AreRecords default_config s xs rows
+pub records_from_here : (n : ℕ) (s : State) (xs : List ℕ) → ends_at_end s ≡ false → length xs < n → (rows : List (List (List ℕ))) × AreRecords default_config s xs rows
 unfolding Reached
 records_from_here zero s xs start less = absurd (omega arith)
 records_from_here (suc n) s xs start less = by (next_record default_config s [] [] xs) refl (λ t ys. records_from_here n t ys)

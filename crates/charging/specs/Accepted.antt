@@ -57,6 +57,10 @@ abbrev pub first_bad : ℕ → List Item → Option ℕ
 first_bad here [] = None
 first_bad here (item ∷ items) = if is_accepted item then first_bad (here + 1) items else Some here
 
+-- the number of the first item after the setup that is not accepted
+abbrev pub bad_after_setup : List Item → Option ℕ
+bad_after_setup items = first_bad (setup_length items + 1) (drop (setup_length items) items)
+
 -- the setup, or the number of the bad item
 abbrev pub unless_bad : ChfSetup → Option ℕ → Result ChfSetup ℕ
 unless_bad setup None = Ok setup
@@ -64,7 +68,7 @@ unless_bad setup (Some number) = Err number
 
 -- what follows the setup, or the number of the item that is not accepted in it
 abbrev pub after_setup : Result ChfSetup ℕ → List Item → Result ChfSetup ℕ
-after_setup (Ok setup) items = unless_bad setup (first_bad (setup_length items + 1) (drop (setup_length items) items))
+after_setup (Ok setup) items = unless_bad setup (bad_after_setup items)
 after_setup (Err row) items = Err (number_at (row - 1) 0 1 items)
 
 -- a run begins with nothing, so it needs setup rows

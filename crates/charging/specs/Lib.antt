@@ -12,4 +12,5 @@ pub mod Answering
 pub mod Laws
 pub mod Tasks
 pub mod Status
+pub mod Taking
 pub mod PlainRows

@@ -15,6 +15,7 @@ ghost use Rattle.chf_rows.specs.OperatorRow.{command_of};
 
 use crate::account_lines::push_accounts;
 use crate::item::{Item, Method};
+use crate::items::Items;
 use crate::responses::{push_given, push_made, push_number, push_removed, push_reply};
 use crate::routing::command_at;
 use chf_core::{Chf, ChfRefusal, ChfSetup, Command, Decision, Outcome, problem, refusal_reply};
@@ -248,15 +249,26 @@ fn set_up(alloc: Global, setup: ChfSetup) -> Result<Chf, OutOfMemory>
     }
 }
 
-/// What a run prints that begins with a setup.
-pub fn printed(alloc: Global, setup: ChfSetup, items: &[Item]) -> Result<Vec<u8>, OutOfMemory>
-    ensures { IfOk result (λ out. out.items ≡ printed (after nothing_yet (Setup setup)) items.now) }
+/// What a run over these items prints that begins with a setup.
+pub fn printed<I: Items>(alloc: Global, setup: ChfSetup, items: &I) -> Result<Vec<u8>, OutOfMemory>
+    ensures { IfOk result (λ out. out.items ≡ printed (after nothing_yet (Setup setup)) (I.all items.now)) }
 {
     let mut out = Vec::new(alloc);
     let mut chf = set_up(alloc, setup)?;
-    for item in items {
-        push_item(alloc, &mut chf, item, &mut out)?;
-    }
-    push_accounts(alloc, &chf, &mut out)?;
+    push_items(alloc, &mut chf, &mut items.again(alloc), &mut out)?;
     Ok(out)
+}
+
+// Answers the items that are left, then prints the accounts.
+fn push_items<I: Items>(alloc: Global, chf: &mut Chf, items: &mut I, out: &mut Vec<u8>) -> Result<(), OutOfMemory>
+    requires begun { (chf.old.state.count == 0) ≡ false }
+    requires sound { I.is_sound items.old }
+    ensures { OnOk result (out.new.items ≡ out.old.items ++ printed chf.old.state (I.left items.old)) }
+{
+    loop {
+        match items.take(alloc)? {
+            None => return push_accounts(alloc, chf, out),
+            Some(item) => push_item(alloc, chf, &item, out)?,
+        }
+    }
 }

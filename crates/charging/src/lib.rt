@@ -2,10 +2,11 @@
 //!
 //! What it promises: the clauses of the top call `charging`: which status comes when, and what is written then.
 //!
-//! How it is built: `top` is the same for all commands; `words` and `parsing` read the words; `csv_rows`,
-//! `row_items`, `line_items`, `plain_rows` and `item` make a list of items of the input; `accepted` finds the setup
-//! or the first item that is not accepted; `answering` gives each item to the machine, `routing` says what a
-//! message asks, `responses` and `account_lines` print; `meter_rows` and `lines` are the command `meter`.
+//! How it is built: `top` is the same for all commands; `words` and `parsing` read the words; `items` is what gives
+//! the items of an input one after the other, `row_items` and `line_items` are its two forms (`item`, `csv_rows`,
+//! `plain_rows`); `accepted` goes through them once for the setup and once for the first item that is not accepted;
+//! `answering` gives each item to the machine, `routing` says what a message asks, `responses` and `account_lines`
+//! print; `meter_rows` and `lines` are the command `meter`.
 //!
 //! Where a rule goes: a command is one more variant of `Task`, and a case each in `task_of`, `Prints`, `Accepts`,
 //! `Refuses` and `output_of_bytes`; a kind of message goes into `Routing` and `routing`.
@@ -16,6 +17,7 @@ mod account_lines;
 mod answering;
 mod csv_rows;
 mod item;
+mod items;
 mod laws;
 mod line_items;
 mod lines;

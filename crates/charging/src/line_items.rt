@@ -1,8 +1,10 @@
 //! The lines of `answer` as items: messages with their bodies, and rows.
-ghost use Rattle.std.specs.Prelude.{◌≡◌, IfOk, Some, None, drop, length, option_map, if◌then◌else◌};
+ghost use Rattle.std.specs.Prelude.{◌≡◌, IfOk, Some, None, drop, length, option_map, if◌then◌else◌, ⊤, tt};
 ghost use Rattle.charging.specs.Items.{answer_items, begins_with, line_by, line_item, message_item, message_of, method_of, method_word};
+ghost use Rattle.charging.specs.Taking.{lines_left};
 
 use crate::item::{Item, Method};
+use crate::items::Items;
 use crate::row_items::{as_text, only_row};
 use rows::piece_length;
 use std::alloc::{AllocError, Global};
@@ -94,18 +96,43 @@ fn line_item(alloc: Global, line: &[u8]) -> Result<Item, OutOfMemory>
     }
 }
 
-/// The items of `answer`.
-pub fn answer_items(alloc: Global, bytes: &[u8]) -> Result<List<Item>, OutOfMemory>
-    ensures { IfOk result (λ items. items ≡ answer_items bytes.now) }
-{
-    let mut items = List::new(alloc);
-    let mut rest = bytes;
-    loop {
-        let end = piece_length(b'\n', rest);
-        items.push(line_item(alloc, &rest[..end])?)?;
-        if end >= rest.len() {
-            return Ok(items);
+/// The lines of an input, one after the other.
+#[derive(Drop)]
+pub struct LineItems<'a> {
+    bytes: &'a [u8],
+    rest: Option<&'a [u8]>,
+}
+
+impl<'a> LineItems<'a> {
+    /// Those of these bytes.
+    pub fn of(bytes: &'a [u8]) -> LineItems<'a>
+        ensures { (LineItems as Items).all result ≡ answer_items bytes.now }
+    {
+        LineItems {
+            bytes,
+            rest: Some(bytes),
         }
-        rest = &rest[end + 1..];
+    }
+}
+
+impl<'a> Items for LineItems<'a> {
+    ghost all = { λ l. answer_items l.bytes.now };
+
+    ghost left = { λ l. lines_left (option_map (λ r. r.now) l.rest) };
+
+    ghost is_sound = { λ _. ⊤ };
+
+    fn again(&self, alloc: Global) -> LineItems<'a> {
+        LineItems::of(self.bytes)
+    }
+
+    fn take(&mut self, alloc: Global) -> Result<Option<Item>, OutOfMemory> {
+        let Some(rest) = self.rest else {
+            return Ok(None);
+        };
+        let end = piece_length(b'\n', rest);
+        let item = line_item(alloc, &rest[..end])?;
+        self.rest = rest.get(end + 1..);
+        Ok(Some(item))
     }
 }

@@ -1,13 +1,17 @@
 //! Rows as items.
 ghost use Rattle.std.specs.Prelude.{◌≡◌, IfOk, Some, None, if◌then◌else◌};
 ghost use Rattle.std.specs.Str.{is_utf8};
+ghost use Rattle.csv.specs.Reading.{reader_state, source_of};
 ghost use Rattle.csv.specs.Records.{fields_of};
 ghost use Rattle.charging.specs.Items.{only_row, operator_items, row_item, rows_in};
+ghost use Rattle.charging.specs.Rows.{StandsAt};
+ghost use Rattle.charging.specs.Taking.{bytes_left, rows_left};
 
 use crate::csv_rows::{next_row, rows_of};
 use crate::item::Item;
+use crate::items::Items;
 use crate::plain_rows::{is_plain, plain_row};
-use csv::ByteRecord;
+use csv::{ByteRecord, Reader};
 use std::alloc::Global;
 use units::{List, OutOfMemory, Text};
 
@@ -66,17 +70,43 @@ fn read_row(alloc: Global, line: &[u8]) -> Result<Item, OutOfMemory>
     row_item(alloc, &row)
 }
 
-/// The items of `operator`.
-pub fn operator_items(alloc: Global, bytes: &[u8]) -> Result<List<Item>, OutOfMemory>
-    ensures { IfOk result (λ items. items ≡ operator_items bytes.now) }
-{
-    let reader = rows_of(alloc, bytes);
-    let mut items = List::new(alloc);
-    for row in reader.into_byte_records() {
-        match row {
-            Ok(row) => items.push(row_item(alloc, &row)?)?,
-            Err(_) => return Err(OutOfMemory),
+/// The rows of an input, one after the other.
+#[derive(Drop)]
+pub struct RowItems<'a> {
+    bytes: &'a [u8],
+    reader: Reader<&'a [u8]>,
+    row: ByteRecord,
+}
+
+impl<'a> RowItems<'a> {
+    /// Those of these bytes.
+    pub fn of(alloc: Global, bytes: &'a [u8]) -> RowItems<'a>
+        ensures { (RowItems as Items).all result ≡ operator_items bytes.now }
+    {
+        RowItems {
+            bytes,
+            reader: rows_of(alloc, bytes),
+            row: ByteRecord::new(alloc),
         }
     }
-    Ok(items)
+}
+
+impl<'a> Items for RowItems<'a> {
+    ghost all = { λ r. operator_items r.bytes.now };
+
+    ghost left = { λ r. rows_left (reader_state r.reader) (bytes_left (source_of (λ s. Some s.now) r.reader)) };
+
+    ghost is_sound = { λ r. StandsAt r.reader (reader_state r.reader) (bytes_left (source_of (λ s. Some s.now) r.reader)) };
+
+    fn again(&self, alloc: Global) -> RowItems<'a> {
+        RowItems::of(alloc, self.bytes)
+    }
+
+    fn take(&mut self, alloc: Global) -> Result<Option<Item>, OutOfMemory> {
+        if next_row(&mut self.reader, &mut self.row)? {
+            Ok(Some(row_item(alloc, &self.row)?))
+        } else {
+            Ok(None)
+        }
+    }
 }

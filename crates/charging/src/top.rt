@@ -10,11 +10,11 @@ ghost use Rattle.charging.specs.Status.{EndedBy, ReadsToEnd, WritesText, error_l
 
 use crate::accepted::read_items;
 use crate::answering::printed;
-use crate::item::Item;
-use crate::line_items::answer_items;
+use crate::items::Items;
+use crate::line_items::LineItems;
 use crate::lines::table;
 use crate::meter_rows::{RowsEnd, meter_rows};
-use crate::row_items::operator_items;
+use crate::row_items::RowItems;
 use crate::status::{Status, ended};
 use crate::words::{Prices, Task, read_task};
 use edge::{Counted, ReadEnd, Sink, Source, Stream, read_all, write_all};
@@ -46,9 +46,9 @@ fn table_of_bytes(alloc: Global, prices: &Prices, bytes: &[u8]) -> Result<String
 }
 
 // What a run over items prints.
-fn run_of_items(alloc: Global, items: &[Item]) -> Result<Vec<u8>, Status>
-    ensures ok { IfOk result (λ out. IsPrinted items.now out.items) }
-    ensures err { IfErr result (λ status. (status ≡ Status.OutOfMemory) ⊎ ((row : ℕ) × (status ≡ Status.BadInput row) × (outcome items.now ≡ Err row))) }
+fn run_of_items<I: Items>(alloc: Global, items: &I) -> Result<Vec<u8>, Status>
+    ensures ok { IfOk result (λ out. IsPrinted (I.all items.now) out.items) }
+    ensures err { IfErr result (λ status. (status ≡ Status.OutOfMemory) ⊎ ((row : ℕ) × (status ≡ Status.BadInput row) × (outcome (I.all items.now) ≡ Err row))) }
 {
     match read_items(alloc, items) {
         Ok(setup) => match printed(alloc, setup, items) {
@@ -69,14 +69,8 @@ fn output_of_bytes(alloc: Global, task: &Task, bytes: &[u8]) -> Result<Vec<u8>, 
 {
     match task {
         Task::Meter { prices } => Ok(table_of_bytes(alloc, prices, bytes)?.into_bytes()),
-        Task::Operator => match operator_items(alloc, bytes) {
-            Ok(items) => run_of_items(alloc, items.as_slice()),
-            Err(_) => Err(Status::OutOfMemory),
-        },
-        Task::Answer => match answer_items(alloc, bytes) {
-            Ok(items) => run_of_items(alloc, items.as_slice()),
-            Err(_) => Err(Status::OutOfMemory),
-        },
+        Task::Operator => run_of_items(alloc, &RowItems::of(alloc, bytes)),
+        Task::Answer => run_of_items(alloc, &LineItems::of(bytes)),
     }
 }
 
