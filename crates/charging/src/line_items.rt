@@ -1,5 +1,5 @@
 //! The lines of `answer` as items: messages with their bodies, and rows.
-ghost use Rattle.std.specs.Prelude.{◌≡◌, IfOk, Some, None, drop, length, option_map, if◌then◌else◌, ⊤, tt};
+ghost use Rattle.std.specs.Prelude.{◌≡◌, IfOk, Some, None, drop, length, option_map, if◌then◌else◌, ⊤};
 ghost use Rattle.charging.specs.Items.{answer_items, begins_with, line_by, line_item, message_item, message_of, method_of, method_word};
 ghost use Rattle.charging.specs.Taking.{lines_left};
 
@@ -106,7 +106,8 @@ pub struct LineItems<'a> {
 impl<'a> LineItems<'a> {
     /// Those of these bytes.
     pub fn of(bytes: &'a [u8]) -> LineItems<'a>
-        ensures { (LineItems as Items).all result ≡ answer_items bytes.now }
+        ensures bytes { result.bytes.now ≡ bytes.now }
+        ensures rest { option_map (λ r. r.now) result.rest ≡ Some bytes.now }
     {
         LineItems {
             bytes,

@@ -1,7 +1,8 @@
 //! Rows as items.
 ghost use Rattle.std.specs.Prelude.{◌≡◌, IfOk, Some, None, if◌then◌else◌};
 ghost use Rattle.std.specs.Str.{is_utf8};
-ghost use Rattle.csv.specs.Reading.{reader_state, source_of};
+ghost use Rattle.csv.specs.Reading.{reader_state, source_of, strip_bom};
+ghost use Rattle.csv.specs.declared.parser.State.TheVariants as st;
 ghost use Rattle.csv.specs.Records.{fields_of};
 ghost use Rattle.charging.specs.Items.{only_row, operator_items, row_item, rows_in};
 ghost use Rattle.charging.specs.Rows.{StandsAt};
@@ -81,7 +82,8 @@ pub struct RowItems<'a> {
 impl<'a> RowItems<'a> {
     /// Those of these bytes.
     pub fn of(alloc: Global, bytes: &'a [u8]) -> RowItems<'a>
-        ensures { (RowItems as Items).all result ≡ operator_items bytes.now }
+        ensures bytes { result.bytes.now ≡ bytes.now }
+        ensures reader { StandsAt result.reader st.StartRecord (strip_bom bytes.now) }
     {
         RowItems {
             bytes,
