@@ -10,3 +10,4 @@ pub mod Found
 pub mod Marked
 pub mod Several
 pub mod Told
+pub mod Stored

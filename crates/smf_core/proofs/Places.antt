@@ -84,17 +84,6 @@ put_on front (x ∷ all) next l = at (is_held x) refl next l (λ y ks m. put_on 
 pub put-merged : (all next : List Holding) → length (filter is_held all) ≤ length next → put_places (places_from 0 all) next all ≡ merged all next
 put-merged all next l = put_on [] all next l
 
--- of what is written, and of where it is written
-map-set : {A B : Type 0} (f : A → B) (xs : List A) (i : ℕ) (x : A) → map f (set xs i x) ≡ set (map f xs) i (f x)
-map-set f [] i x = refl
-map-set f (y ∷ xs) zero x = refl
-map-set f (y ∷ xs) (suc i) x = ap (λ zs. f y ∷ zs) (map-set f xs i x)
-
-pub put-map : {A B : Type 0} (f : A → B) (ps : List ℕ) (ks xs : List A) → map f (put_places ps ks xs) ≡ put_places ps (map f ks) (map f xs)
-put-map f ps [] xs = refl
-put-map f [] (k ∷ ks) xs = put-map f [] ks (xs ++ k ∷ []) ∙ ap (put_places [] (map f ks)) (map-append f xs (k ∷ []))
-put-map f (p ∷ ps) (k ∷ ks) xs = put-map f ps ks (set xs p k) ∙ ap (put_places ps (map f ks)) (map-set f xs p k)
-
 -- one more of those that took their places
 pub live_turn : (places : List ℕ) (moved : List Holding) (count i : ℕ) (h : Holding) → i < length moved → get_or moved i h ≡ h
     → live_after (drop i places) (count + (i - length places)) (drop i moved)

@@ -1,9 +1,9 @@
 //! What an event changes of a session of which only what is held is kept.
-ghost use Rattle.std.specs.Prelude.{◌≡◌, ◌<◌, ◌≤◌, ◌+◌, ◌-◌, IfOk, length, map, filter, vec_len, vec_capacity};
+ghost use Rattle.std.specs.Prelude.{◌≡◌, ◌<◌, ◌+◌, ◌-◌, IfOk, length, map, filter};
 ghost use Rattle.smf_core.specs.Draft.{effect_past};
 ghost use Rattle.smf_model.specs.Machine.{finished};
 ghost use Rattle.smf_core.specs.Reads.{is_held, is_held_at, containers_of};
-ghost use Rattle.smf_core.specs.Caches.{live_after, place_at, put_places, IsMade, HasParts};
+ghost use Rattle.smf_core.specs.Caches.{live_after, place_at, IsMade, HasParts};
 
 use crate::draft::Draft;
 use crate::plan::Change;
@@ -71,24 +71,6 @@ fn places_after(
     Ok(next)
 }
 
-/// Others written at places, one after another; the one that is left comes at the end.
-pub fn put_all<T: Copy>(all: &mut Vec<T>, places: &[usize], next: &[T])
-    requires one { length next.now ≤ length places.now + 1 }
-    requires room { vec_len all.old < vec_capacity all.old }
-    ensures { all.new.items ≡ put_places places.now next.now all.old.items }
-{
-    for (at, item) in next.iter().enumerate() {
-        if at < places.len() {
-            let place = places[at];
-            if place < all.len() {
-                all[place] = *item;
-            }
-        } else {
-            all.push_reserved(*item);
-        }
-    }
-}
-
 fn change_from(
     alloc: Global,
     places: &[usize],
@@ -104,18 +86,12 @@ fn change_from(
         rules,
         pending,
     } = draft;
-    let containers = containers_from(alloc, holdings.as_slice())?;
-    let live = held_from(alloc, holdings.as_slice())?;
-    let held = containers_from(alloc, &live)?;
     let places = places_after(alloc, places, count, holdings.as_slice())?;
     Ok(Change {
         course,
         groups,
         moved: holdings,
-        containers: List::from_vec(containers),
-        live: List::from_vec(live),
         places,
-        held: List::from_vec(held),
         rules,
         pending,
     })

@@ -23,6 +23,7 @@ mod categories;
 mod change;
 mod changes;
 mod checks;
+mod containers;
 mod counting;
 mod draft;
 mod ending;
