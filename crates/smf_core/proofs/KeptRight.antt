@@ -1,6 +1,6 @@
 -- What is kept of a session stays right: when a change is made for it, and when that is taken.
 use Rattle.std.proofs.Common.{◌≡◌, ℕ, ◌+◌, ◌-◌, ◌≤◌, Bool, true, false, cond, List, [], ◌∷◌, length, filter, sym, ◌∙◌, ap, subst, arith, zero-add}
-use Rattle.std.specs.Prelude.{Result, Ok, Err, IfOk}
+use Rattle.std.specs.Prelude.{Result, Ok, Err, IfOk, unwrap_or}
 use Rattle.std.proofs.lemmas.List.{length-map}
 use Rattle.units.specs.declared.report.Container.{Container}
 use Rattle.smf_model.specs.declared.setup.SmfSetup.{SmfSetup}
@@ -55,7 +55,7 @@ fits c setup now event b all at some given k before =
     record {
       enough = enough;
       one = omega (arith, ap length k.live, g.1, long);
-      places = m.places ∙ ap (λ ps. live_after ps (length all) c.moved) k.places ∙ ap (λ n. live_after (places_from 0 all) n c.moved) (sym (zero-add (length all))) ∙ sym (places-merged 0 all c.moved enough);
+      places = ap (unwrap_or c.places) (sym k.places) ∙ m.places ∙ ap (λ ps. live_after ps (length all) c.moved) k.places ∙ ap (λ n. live_after (places_from 0 all) n c.moved) (sym (zero-add (length all))) ∙ sym (places-merged 0 all c.moved enough);
     }
 
 -- taking a change
@@ -65,12 +65,12 @@ written c b all at h f = ap (λ ps. put_places ps c.moved all) h ∙ put-merged 
 
 pub taken : (c : Change) (b : Session) (all live : List Holding) (at : List ℕ) (some held : List Container) (given next : List GivenUp)
     → IsKept b all at some given → Fits c (full b all) → live ≡ filter is_held c.moved → held ≡ containers_of live → next ≡ given_up_of (put_places at c.moved all)
-    → IsKept (after_change b c.course c.groups live c.rules c.pending) (put_places at c.moved all) c.places held next
+    → IsKept (after_change b c.course c.groups live c.rules c.pending) (put_places at c.moved all) (unwrap_or c.places at) held next
 taken c b all live at some held given next k f is has told =
     let new : put_places at c.moved all ≡ merged all c.moved = written c b all at k.places f in
     record {
       live = is ∙ sym (filter-merged is_held (λ h e. e) all c.moved) ∙ ap (filter is_held) (sym new);
-      places = f.places ∙ ap (places_from 0) (sym new);
+      places = ap (unwrap_or c.places) k.places ∙ f.places ∙ ap (places_from 0) (sym new);
       held = has;
       given_up = told;
     }

@@ -11,3 +11,4 @@ pub mod Marked
 pub mod Several
 pub mod Told
 pub mod Stored
+pub mod InPlace

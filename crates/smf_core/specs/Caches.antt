@@ -77,7 +77,7 @@ pub record HasParts (c : Change) (d : Draft) (before : List ℕ) (count : ℕ) :
   pub groups : c.groups ≡ d.groups
   pub moved : c.moved ≡ d.holdings
   pub pending : c.pending ≡ d.pending
-  pub places : c.places ≡ live_after before count c.moved
+  pub places : unwrap_or c.places before ≡ live_after before count c.moved
   pub rules : c.rules ≡ d.rules
 
 -- the trigger rules, which a change may leave as they are
@@ -108,7 +108,7 @@ session_with c s holdings = record {
 -- a change is what came of a session of which only what is held is kept
 pub record IsMade (c : Change) (before : Session) (at : List ℕ) (count : ℕ) (after : Session) : Type 0 where
   pub session : session_with c before c.moved ≡ after
-  pub places : c.places ≡ live_after at count c.moved
+  pub places : unwrap_or c.places at ≡ live_after at count c.moved
 
 -- what is kept of a session is right
 pub record IsKept (s : Session) (all : List Holding) (at : List ℕ) (some : List Container) (told : List GivenUp) : Type 0 where

@@ -1,5 +1,5 @@
 -- A plan: what an event makes of the machine, as what it makes of the sessions that it touches and the session that it adds (this product's own).
-use Rattle.std.specs.Prelude.{◌≡◌, ◌⊎◌, ℕ, zero, suc, ◌+◌, ◌<◌, ◌≤◌, Option, Some, None, List, [], ◌∷◌, ◌++◌, length, filter, Ok, Err}
+use Rattle.std.specs.Prelude.{◌≡◌, ◌⊎◌, ℕ, zero, suc, ◌+◌, ◌<◌, ◌≤◌, Option, Some, None, unwrap_or, List, [], ◌∷◌, ◌++◌, length, filter, Ok, Err}
 use Rattle.smf_model.specs.declared.session.Session.{Session}
 use Rattle.smf_model.specs.declared.session.Machine.{Machine}
 use Rattle.smf_model.specs.declared.event.SmfEvent.{SmfEvent}
@@ -24,7 +24,7 @@ changed c s = session_with c s (merged s.holdings c.moved)
 pub record Fits (c : Change) (s : Session) : Type 0 where
   pub enough : length (filter is_held s.holdings) ≤ length c.moved
   pub one : length c.moved ≤ length (filter is_held s.holdings) + 1
-  pub places : c.places ≡ places_from 0 (merged s.holdings c.moved)
+  pub places : unwrap_or c.places (places_from 0 s.holdings) ≡ places_from 0 (merged s.holdings c.moved)
 
 -- at a place
 abbrev pub map_at : ℕ → (Session → Session) → List Session → List Session

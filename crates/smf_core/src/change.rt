@@ -1,5 +1,6 @@
 //! What an event changes of a session of which only what is held is kept.
-ghost use Rattle.std.specs.Prelude.{◌≡◌, ◌<◌, ◌+◌, ◌-◌, IfOk, length, map, filter};
+ghost use Rattle.std.specs.Prelude.{◌≡◌, ◌<◌, ◌+◌, ◌-◌, IfOk, length, map, filter, unwrap_or};
+ghost use Rattle.std.specs.List.{list_all};
 ghost use Rattle.smf_core.specs.Draft.{effect_past};
 ghost use Rattle.smf_model.specs.Machine.{finished};
 ghost use Rattle.smf_core.specs.Reads.{is_held, is_held_at, containers_of};
@@ -71,6 +72,29 @@ fn places_after(
     Ok(next)
 }
 
+// Whether each of a list is held.
+fn all_held(holdings: &[Holding]) -> bool
+    ensures { result ≡ list_all is_held holdings.now }
+{
+    holdings.iter().all(|h| is_held_holding(h))
+}
+
+// The same, where they are not as before.
+fn places_left(
+    alloc: Global,
+    places: &[usize],
+    count: usize,
+    moved: &[Holding],
+) -> Result<Option<List<usize>>, OutOfMemory>
+    ensures { IfOk result (λ r. unwrap_or r places.now ≡ live_after places.now count moved.now) }
+{
+    if moved.len() == places.len() && all_held(moved) {
+        return Ok(None);
+    }
+    let next = places_after(alloc, places, count, moved)?;
+    Ok(Some(next))
+}
+
 fn change_from(
     alloc: Global,
     places: &[usize],
@@ -86,7 +110,7 @@ fn change_from(
         rules,
         pending,
     } = draft;
-    let places = places_after(alloc, places, count, holdings.as_slice())?;
+    let places = places_left(alloc, places, count, holdings.as_slice())?;
     Ok(Change {
         course,
         groups,

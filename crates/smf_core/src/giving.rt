@@ -89,12 +89,7 @@ fn untell(given: &mut Vec<GivenUp>, all: &Containers, since: usize)
 
 /// Containers take the places of those that were held, and what is given up is told: from the first one on that they give up it is
 /// made anew.
-pub fn retell(
-    given: &mut Vec<GivenUp>,
-    all: &mut Containers,
-    places: &[usize],
-    moved: &[Holding],
-)
+pub fn retell(given: &mut Vec<GivenUp>, all: &mut Containers, places: &[usize], moved: &[Holding])
     requires told { given.old.items ≡ given_up_of all.old.holdings }
     requires places { places.now ≡ places_from 0 all.old.holdings }
     requires enough { length (filter is_held all.old.holdings) ≤ length moved.now }

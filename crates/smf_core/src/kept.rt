@@ -1,5 +1,5 @@
 //! What is kept of a session for speed.
-ghost use Rattle.std.specs.Prelude.{◌≡◌, ◌<◌, ◌≤◌, ◌+◌, IfOk, OnOk, filter, length, map, vec_len, vec_capacity};
+ghost use Rattle.std.specs.Prelude.{◌≡◌, ◌<◌, ◌≤◌, ◌+◌, IfOk, OnOk, filter, length, map, unwrap_or, vec_len, vec_capacity};
 ghost use Rattle.std.specs.Option.{option_copied};
 ghost use Rattle.smf_model.specs.Machine.{touches, effect, finished, gate_for, expected_of};
 ghost use Rattle.smf_core.specs.Lookup.{answer_at};
@@ -77,6 +77,15 @@ fn retain_held(holdings: &mut Vec<Holding>)
     ensures { holdings.new.items ≡ filter is_held holdings.old.items }
 {
     holdings.retain(|h| is_held_holding(h));
+}
+
+// The places of what is held, which a change may leave as they are.
+fn take_places(before: &mut List<usize>, places: Option<List<usize>>)
+    ensures { before.new ≡ unwrap_or places before.old }
+{
+    if let Some(places) = places {
+        *before = places;
+    }
 }
 
 // The containers of what is held take the places of those before.
@@ -256,7 +265,7 @@ impl Kept {
             self.places.as_slice(),
             moved.as_slice(),
         );
-        self.places = places;
+        take_places(&mut self.places, places);
         let live = only_held(moved);
         hold(&mut self.held, live.as_slice());
         settle_in(&mut self.session, course, groups, live, rules, pending);

@@ -11,8 +11,8 @@ pub struct Change {
     pub groups: List<Entry>,
     /// What was held before, as it is now, and the container that was opened.
     pub moved: List<Holding>,
-    /// The places of what of it is held.
-    pub places: List<usize>,
+    /// The places of what of it is held, where they are not as before.
+    pub places: Option<List<usize>>,
     /// The trigger rules, where they are not as before.
     pub rules: Option<List<Rule>>,
     pub pending: Pending,

@@ -1,6 +1,6 @@
 use Rattle.std.proofs.Common.{◌≡◌, ◌≤◌, ◌+◌, ◌-◌, ◌++◌, ◌∙◌, sym, ap, take, drop, length, vec_capacity, arith}
 use Rattle.smf_model.specs.GivenUps.{given_up_of}
-use Rattle.smf_core.specs.Caches.{first_given_up, given_up_count, put_places}
+use Rattle.smf_core.specs.Caches.{first_given_up, given_up_count}
 use Rattle.smf_core.proofs.Told.{told_anew, told_spare}
 use Rattle.smf_core.proofs.giving.retell.Goals as goal
 

@@ -1,4 +1,4 @@
-use Rattle.std.proofs.Common.{◌∙◌, ◌++◌, ◌∷◌, [], ap, arith, length}
+use Rattle.std.proofs.Common.{◌∙◌, ◌++◌, ◌∷◌, [], ap, arith}
 use Rattle.std.proofs.lemmas.List.{length_push}
 use Rattle.smf_core.specs.Stored.{Stored, stage_of}
 use Rattle.smf_core.proofs.Stored.{staged_more}

@@ -35,7 +35,7 @@ invariant_of-self c =
     c.retell.ensures.given ∙ ap given_up_of c.retell.ensures.holdings
     ∙ ap (λ ps. given_up_of (put_places ps c.as_slice-2.result.now k.containers.holdings)) c.as_slice.ensures
     ∙ ap (λ ks. given_up_of (put_places k.places ks k.containers.holdings)) c.as_slice-2.ensures in
-    rw (c.settle_in.ensures, c.retell.ensures.holdings, c.as_slice.ensures, c.as_slice-2.ensures)
+    rw (c.settle_in.ensures, c.retell.ensures.holdings, c.take_places.ensures, c.as_slice.ensures, c.as_slice-2.ensures)
     (taken c.args.change k.session k.containers.holdings c.only_held-live.result k.places k.held.items c.hold.new.held.items k.given.items c.retell.new.given.items c.self.invariant fit c.only_held-live.ensures
     (c.hold.ensures ∙ ap containers_of c.as_slice-3.ensures) told)
 
