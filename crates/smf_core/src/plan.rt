@@ -2,23 +2,17 @@
 use crate::draft::{Course, Pending};
 use crate::kept::Kept;
 use smf_model::{Entry, Holding, Rule, Seen};
-use units::{Container, List, Moment};
+use units::{List, Moment};
 
-/// What an event makes of one session: what it changes, and what is kept of that for speed.
+/// What an event makes of one session: what it changes, and the places of what is held then.
 #[derive(Debug, Drop)]
 pub struct Change {
     pub course: Course,
     pub groups: List<Entry>,
     /// What was held before, as it is now, and the container that was opened.
     pub moved: List<Holding>,
-    /// Their containers.
-    pub containers: List<Container>,
-    /// What of them is held.
-    pub live: List<Holding>,
-    /// The places of that.
-    pub places: List<usize>,
-    /// Its containers.
-    pub held: List<Container>,
+    /// The places of what of it is held, where they are not as before.
+    pub places: Option<List<usize>>,
     /// The trigger rules, where they are not as before.
     pub rules: Option<List<Rule>>,
     pub pending: Pending,
