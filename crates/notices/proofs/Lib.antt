@@ -1,0 +1,6 @@
+mod InOrder
+mod Watching
+mod Aligned
+mod Answered
+mod Leaving
+mod Numbering
