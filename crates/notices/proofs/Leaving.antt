@@ -5,7 +5,7 @@ use Rattle.std.proofs.lemmas.Bool.{leb-true, leb-false, eqb-true, eqb-false, ne_
 use Rattle.notices.specs.declared.notice.Notice.{Notice}
 use Rattle.notices.specs.InOrder.{put_in_order, without_first}
 use Rattle.notices.specs.Watched.{Watched, posted, all_posted, first_of}
-use Rattle.notices.specs.Steps.{Step, Subscribed, Modified, Ended, Spent, Moved, Sent, makes, changed_by, after, state_of, of_subscription, made, leaves, left}
+use Rattle.notices.specs.Steps.{Step, Subscribed, Modified, Ended, Spent, Moved, Sent, makes, after, state_of, of_subscription, made, leaves, left}
 
 -- all are of subscriptions from this number on
 abbrev pub AreFrom : ℕ → List Notice → Type 0
@@ -139,17 +139,17 @@ others_stay other id (n ∷ notices) apart = by (others_stay other id notices ap
 
 -- ---- every step
 
-rising_by : (step : Step) (w : Watched) → AreRising w.unsent → AreRising (changed_by step w).unsent
-rising_by (Subscribed context account) w rising = rising
-rising_by (Modified id context) w rising = rising
-rising_by (Ended id) w rising = rising
-rising_by (Spent account before after) w rising = rising
-rising_by (Moved supi from to before after) w rising = rising
-rising_by (Sent id) w rising = rising_without id w.unsent rising
+rising_by : (rows : List (List (List ℕ))) (step : Step) (w : Watched) → AreRising w.unsent → AreRising (after rows w step).unsent
+rising_by rows (Subscribed context account) w rising = rising
+rising_by rows (Modified id context) w rising = rising
+rising_by rows (Ended id) w rising = rising
+rising_by rows (Spent account before later) w rising = rising_all w (makes rows w (Spent account before later)) rising
+rising_by rows (Moved supi from to before later) w rising = rising_all w (makes rows w (Moved supi from to before later)) rising
+rising_by rows (Sent id) w rising = rising_without id w.unsent rising
 
 rising_after : (rows : List (List (List ℕ))) (steps : List Step) → AreRising (state_of rows steps).unsent
 rising_after rows [] = tt
-rising_after rows (step ∷ before) = rising_by step (all_posted (state_of rows before) (makes rows (state_of rows before) step)) (rising_all (state_of rows before) (makes rows (state_of rows before) step) (rising_after rows before))
+rising_after rows (step ∷ before) = rising_by rows step (state_of rows before) (rising_after rows before)
 
 -- what was made and not sent before a step, and what the step makes, is what leaves by it and what is not sent after it
 step_leaves : (id : ℕ) (step : Step) (rows : List (List (List ℕ))) (w : Watched) → AreRising w.unsent

@@ -14,7 +14,7 @@ use Rattle.notices.specs.Watching.{watches, ids_from, watching}
 use Rattle.notices.specs.Watched.{Watched, posted, all_posted, moved_to}
 use Rattle.notices.proofs.Answered.{posted_accounts}
 use Rattle.notices.specs.Due.{made_of, notice_with, notice_by, notice_of, notices_of, is_of, watching_for}
-use Rattle.notices.specs.Steps.{Step, Subscribed, Modified, Ended, Spent, Moved, Sent, makes, changed_by, after, state_of, of_subscription, made, AreNumberedFrom}
+use Rattle.notices.specs.Steps.{Step, Subscribed, Modified, Ended, Spent, Moved, Sent, makes, after, state_of, of_subscription, made, AreNumberedFrom}
 
 -- ---- ascending numbers of subscriptions
 
@@ -172,20 +172,30 @@ zero_more (n ∷ numbers) zero = refl
 zero_more (n ∷ numbers) (suc place) = zero_more numbers place
 
 -- what else a step does makes no notice
-record KeepsNumbers (w v : Watched) : Type 0 where
+record KeepsNumbers (w v : Watched) (notices : List Notice) : Type 0 where
   sizes : length v.accounts ≡ length v.numbers
-  numbers : (place : ℕ) → get_or v.numbers place 0 ≡ get_or w.numbers place 0
+  numbers : (place : ℕ) → get_or v.numbers place 0 ≡ get_or (numbers_after w.numbers notices) place 0
 
-keeps : (step : Step) (w : Watched) → length w.accounts ≡ length w.numbers → KeepsNumbers w (changed_by step w)
-keeps (Subscribed context account) w same = record {
+posted_sizes : (w : Watched) (notices : List Notice) → length w.accounts ≡ length w.numbers → length (all_posted w notices).accounts ≡ length (all_posted w notices).numbers
+posted_sizes w notices same = ap length (posted_accounts w notices) ∙ same ∙ sym (numbers_length w.numbers notices) ∙ sym (ap length (posted_numbers w notices))
+
+keeps : (rows : List (List (List ℕ))) (step : Step) (w : Watched) → length w.accounts ≡ length w.numbers → KeepsNumbers w (after rows w step) (makes rows w step)
+keeps rows (Subscribed context account) w same = record {
   sizes = omega (arith, length-append w.accounts (Some account ∷ []), length-append w.numbers (0 ∷ []));
   numbers = zero_more w.numbers;
 }
-keeps (Modified id context) w same = record { sizes = same; numbers = λ place. refl }
-keeps (Ended id) w same = record { sizes = length-set w.accounts (id - 1) None ∙ same; numbers = λ place. refl }
-keeps (Spent account before after) w same = record { sizes = same; numbers = λ place. refl }
-keeps (Moved supi from to before after) w same = record { sizes = moved_length to w.accounts (watching_for w supi from) ∙ same; numbers = λ place. refl }
-keeps (Sent id) w same = record { sizes = same; numbers = λ place. refl }
+keeps rows (Modified id context) w same = record { sizes = same; numbers = λ place. refl }
+keeps rows (Ended id) w same = record { sizes = length-set w.accounts (id - 1) None ∙ same; numbers = λ place. refl }
+keeps rows (Spent account before later) w same =
+    let notices = makes rows w (Spent account before later) in
+    record { sizes = posted_sizes w notices same; numbers = λ place. ap (λ ns. get_or ns place 0) (posted_numbers w notices) }
+keeps rows (Moved supi from to before later) w same =
+    let notices = makes rows w (Moved supi from to before later) in
+    record {
+      sizes = moved_length to (all_posted w notices).accounts (watching_for w supi from) ∙ posted_sizes w notices same;
+      numbers = λ place. ap (λ ns. get_or ns place 0) (posted_numbers w notices);
+    }
+keeps rows (Sent id) w same = record { sizes = same; numbers = λ place. refl }
 
 numbered_append : (number : ℕ) (xs ys : List Notice) → AreNumberedFrom number xs → AreNumberedFrom (number + length xs) ys → AreNumberedFrom number (xs ++ ys)
 numbered_append number [] ys a b = let e : number + length {A = Notice} [] ≡ number = omega arith in subst (λ k. AreNumberedFrom k ys) e b
@@ -207,9 +217,7 @@ counted rows (step ∷ before) =
     let old = counted rows before in
     let notices = makes rows w step in
     let follow = step_follows rows w step old.sizes in
-    let posted_size : length (all_posted w notices).accounts ≡ length (all_posted w notices).numbers =
-    ap length (posted_accounts w notices) ∙ old.sizes ∙ sym (numbers_length w.numbers notices) ∙ sym (ap length (posted_numbers w notices)) in
-    let kept = keeps step (all_posted w notices) posted_size in
+    let kept = keeps rows step w old.sizes in
     record {
       sizes = kept.sizes;
       none = (λ i. old.none i ++ none_first w.numbers notices follow i);
@@ -220,7 +228,7 @@ counted rows (step ∷ before) =
           numbered_append 1 (made rows before (suc place)) (of_subscription (suc place) notices) (old.numbered place) (subst (λ k. AreNumberedFrom k (of_subscription (suc place) notices)) e next.numbered);
       count = λ place.
           let next = next_of w.numbers notices place follow in
-          kept.numbers place ∙ ap (λ ns. get_or ns place 0) (posted_numbers w notices) ∙ next.count
+          kept.numbers place ∙ next.count
           ∙ ap (λ k. k + length (of_subscription (suc place) notices)) (old.count place)
           ∙ sym (length-append (made rows before (suc place)) (of_subscription (suc place) notices));
     }

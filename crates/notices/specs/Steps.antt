@@ -23,18 +23,15 @@ makes rows w (Spent account before after) = due rows w account before after
 makes rows w (Moved supi from to before after) = notices_of rows w before after (watching_for w supi from)
 makes rows w other = []
 
--- what else it does
-abbrev pub changed_by : Step → Watched → Watched
-changed_by (Subscribed context account) w = subscribed_on w context account
-changed_by (Modified id context) w = modified w id context
-changed_by (Ended id) w = ended w id
-changed_by (Spent account before after) w = w
-changed_by (Moved supi from to before after) w = moved w (watching_for w supi from) to
-changed_by (Sent id) w = sent w id
-
--- what a step leaves
+-- what a step leaves: its notices are made before a subscriber moves
 abbrev pub after : List (List (List ℕ)) → Watched → Step → Watched
-after rows w step = changed_by step (all_posted w (makes rows w step))
+after rows w (Subscribed context account) = subscribed_on w context account
+after rows w (Modified id context) = modified w id context
+after rows w (Ended id) = ended w id
+after rows w (Spent account before later) = all_posted w (makes rows w (Spent account before later))
+after rows w (Moved supi from to before later) =
+    moved (all_posted w (makes rows w (Moved supi from to before later))) (watching_for w supi from) to
+after rows w (Sent id) = sent w id
 
 -- what a list of steps leaves, the newest first
 abbrev pub state_of : List (List (List ℕ)) → List Step → Watched
