@@ -7,13 +7,14 @@ ghost use Rattle.smf_model.specs.Sending.{flight_of};
 ghost use Rattle.smf_core.specs.Reads.{is_held, containers_of, held_of};
 ghost use Rattle.smf_core.specs.Marking.{mark_of};
 ghost use Rattle.smf_core.specs.Plan.{changed, Fits};
+ghost use Rattle.smf_core.specs.Draft.{request_after};
 ghost use Rattle.smf_core.specs.Caches.{places_from, HasRoom, rules_left, after_change};
 ghost use Rattle.smf_model.specs.GivenUps.{given_up_of};
 
 use crate::change::{change_of, containers_from, held_from, is_held_holding};
 use crate::checks::{check_found, expected, gate};
 use crate::containers::Containers;
-use crate::draft::{Course, Pending, request_left};
+use crate::draft::{Course, Pending};
 use crate::giving::{given_up_count, given_up_from, retell};
 use crate::marks::mark;
 use crate::plan::Change;
@@ -26,7 +27,6 @@ use smf_model::{
 };
 use std::alloc::Global;
 use std::marker::Model;
-use std::mem;
 use units::{Container, List, Moment, OutOfMemory, Request};
 
 /// A session as the machine keeps it: what events look at, which is what is held, beside all its containers; the places of what is held
@@ -99,6 +99,17 @@ fn hold(held: &mut Vec<Container>, live: &[Holding])
     }
 }
 
+// The unanswered request after a change.
+fn leave_request(request: &mut Option<Request>, pending: Pending)
+    ensures { request.new ≡ request_after request.old pending }
+{
+    match pending {
+        Pending::Same => {}
+        Pending::Nothing => *request = None,
+        Pending::New(next) => *request = Some(next),
+    }
+}
+
 // A session as a change leaves what events look at.
 fn settle_in(
     session: &mut Session,
@@ -125,8 +136,7 @@ fn settle_in(
     if let Some(rules) = rules {
         session.rules = rules;
     }
-    let request = mem::replace(&mut session.request, None);
-    session.request = request_left(request, pending);
+    leave_request(&mut session.request, pending);
 }
 
 impl Kept {

@@ -1,6 +1,6 @@
 //! A plan: what an event makes of the machine, with all the memory that it takes.
+use crate::adding::Added;
 use crate::draft::{Course, Pending};
-use crate::kept::Kept;
 use smf_model::{Entry, Holding, Rule, Seen};
 use units::{List, Moment};
 
@@ -44,7 +44,7 @@ pub struct SmfPlan {
     /// How many entries the list has then.
     pub(crate) count: u32,
     pub(crate) next: Next,
-    pub(crate) added: Option<Kept>,
+    pub(crate) added: Added,
     /// The places of the sessions that wait no more.
     pub(crate) woken: List<usize>,
 }
