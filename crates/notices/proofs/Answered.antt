@@ -10,6 +10,8 @@ use Rattle.counters.specs.declared.refusal.CounterRefusal.TheVariants.{UnknownCo
 use Rattle.counters.specs.Watching.{are_known}
 use Rattle.counters.specs.Subscriptions.{context_of, is_live, modify_answer, remove_answer}
 use Rattle.notices.specs.declared.notice.Notice.{Notice}
+use Rattle.notices.specs.InOrder.{all_put}
+use Rattle.notices.specs.Numbers.{numbers_after}
 use Rattle.notices.specs.Places.{Ascending, room_at}
 use Rattle.notices.specs.Watched.{Watched, posted, all_posted, moved_to}
 use Rattle.notices.specs.Due.{is_of}
@@ -66,3 +68,13 @@ posted_contexts w (n ∷ notices) = posted_contexts (posted w n) notices
 pub posted_accounts : (w : Watched) (notices : List Notice) → (all_posted w notices).accounts ≡ w.accounts
 posted_accounts w [] = refl
 posted_accounts w (n ∷ notices) = posted_accounts (posted w n) notices
+
+-- they count on
+pub posted_numbers : (w : Watched) (notices : List Notice) → (all_posted w notices).numbers ≡ numbers_after w.numbers notices
+posted_numbers w [] = refl
+posted_numbers w (n ∷ notices) = posted_numbers (posted w n) notices
+
+-- and are put among those that wait
+pub posted_unsent : (w : Watched) (notices : List Notice) → (all_posted w notices).unsent ≡ all_put (λ n. n.id) w.unsent notices
+posted_unsent w [] = refl
+posted_unsent w (n ∷ notices) = posted_unsent (posted w n) notices

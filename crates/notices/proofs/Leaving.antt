@@ -31,7 +31,7 @@ from_put id (n ∷ notices) one le from = by (from_put id notices one le from.1)
     by rest true = (from.0, rest)
     by rest false = (le, from)
 
-rising_put : (notices : List Notice) (one : Notice) → AreRising notices → AreRising (put_in_order (λ n. n.id) notices one)
+pub rising_put : (notices : List Notice) (one : Notice) → AreRising notices → AreRising (put_in_order (λ n. n.id) notices one)
 rising_put [] one rising = (tt, tt)
 rising_put (n ∷ notices) one rising = by (rising_put notices one rising.1) (leb n.id one.id) refl
   where

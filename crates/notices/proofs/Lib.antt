@@ -4,3 +4,5 @@ mod Aligned
 mod Answered
 mod Leaving
 mod Numbering
+mod Merged
+mod DueOrder

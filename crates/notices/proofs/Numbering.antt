@@ -11,8 +11,9 @@ use Rattle.counters.specs.Watching.{changes}
 use Rattle.counters.specs.Subscriptions.{context_of}
 use Rattle.notices.specs.declared.notice.Notice.{Notice}
 use Rattle.notices.specs.Watching.{watches, ids_from, watching}
-use Rattle.notices.specs.Watched.{Watched, posted, all_posted, moved_to}
-use Rattle.notices.proofs.Answered.{posted_accounts}
+use Rattle.notices.specs.Watched.{Watched, all_posted, moved_to}
+use Rattle.notices.specs.Numbers.{numbers_after}
+use Rattle.notices.proofs.Answered.{posted_accounts, posted_numbers}
 use Rattle.notices.specs.Due.{made_of, notice_with, notice_by, notice_of, notices_of, is_of, watching_for}
 use Rattle.notices.specs.Steps.{Step, Subscribed, Modified, Ended, Spent, Moved, Sent, makes, after, state_of, of_subscription, made, AreNumberedFrom}
 
@@ -45,16 +46,7 @@ filter_ascends test least end (id ∷ ids) up = by (filter_ascends test (suc id)
 
 -- ---- notices one after another
 
--- how many notices were made of each subscription, after these
-abbrev numbers_after : List ℕ → List Notice → List ℕ
-numbers_after numbers [] = numbers
-numbers_after numbers (n ∷ notices) = numbers_after (set numbers (n.id - 1) n.number) notices
-
-posted_numbers : (w : Watched) (notices : List Notice) → (all_posted w notices).numbers ≡ numbers_after w.numbers notices
-posted_numbers w [] = refl
-posted_numbers w (n ∷ notices) = posted_numbers (posted w n) notices
-
-numbers_length : (numbers : List ℕ) (notices : List Notice) → length (numbers_after numbers notices) ≡ length numbers
+pub numbers_length : (numbers : List ℕ) (notices : List Notice) → length (numbers_after numbers notices) ≡ length numbers
 numbers_length numbers [] = refl
 numbers_length numbers (n ∷ notices) = numbers_length (set numbers (n.id - 1) n.number) notices ∙ length-set numbers (n.id - 1) n.number
 
@@ -106,11 +98,11 @@ none_first numbers (n ∷ notices) follow =
 -- ---- the notices that are due
 
 -- a notice is of its subscription, and has the next number
-record IsNext (w : Watched) (id : ℕ) (n : Notice) : Type 0 where
-  own : n.id ≡ id
-  number : n.number ≡ made_of w id + 1
+pub record IsNext (w : Watched) (id : ℕ) (n : Notice) : Type 0 where
+  pub own : n.id ≡ id
+  pub number : n.number ≡ made_of w id + 1
 
-abbrev IfNext : Watched → ℕ → Option Notice → Type 0
+abbrev pub IfNext : Watched → ℕ → Option Notice → Type 0
 IfNext w id None = ⊤
 IfNext w id (Some n) = IsNext w id n
 
@@ -118,7 +110,7 @@ with_next : (w : Watched) (id : ℕ) (context : SpendContext) (infos : List Coun
 with_next w id context [] = tt
 with_next w id context (info ∷ infos) = record { own = refl; number = refl }
 
-is_next : (rows : List (List (List ℕ))) (w : Watched) (before after id : ℕ) → IfNext w id (notice_of rows w before after id)
+pub is_next : (rows : List (List (List ℕ))) (w : Watched) (before after id : ℕ) → IfNext w id (notice_of rows w before after id)
 is_next rows w before after id = by (context_of w.contexts id)
   where
     by : (o : Option SpendContext) → IfNext w id (notice_by rows id (made_of w id) before after o)

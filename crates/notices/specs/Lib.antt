@@ -2,6 +2,7 @@ pub mod InOrder
 pub mod Places
 pub mod Watching
 pub mod Watched
+pub mod Numbers
 pub mod Due
 pub mod Waiting
 pub mod Steps

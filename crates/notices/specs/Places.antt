@@ -1,5 +1,6 @@
 -- Where things are found in lists in ascending order, and what is kept beside them. No public clause names these.
 use Rattle.std.specs.Prelude.{◌≡◌, ℕ, ◌<◌, ◌≤◌, ◌==◌, List, [], length, find, Option, Some, None, slice_get, insert, remove}
+use Rattle.std.specs.List.{AllWithin}
 use Rattle.std.specs.List.Sorted.{IsNonDecreasingBy}
 use Rattle.notices.specs.InOrder.{put_in_order, without_first}
 
@@ -43,6 +44,12 @@ pub record IsFirstAt {X : Type 0} (number : X → ℕ) (n : ℕ) (xs : List X) (
 pub record HasNone {X : Type 0} (number : X → ℕ) (n : ℕ) (xs : List X) : Type 0 where
   pub first : find (λ x. number x == n) xs ≡ None
   pub rest : without_first number xs n ≡ xs
+
+-- up to this place the numbers are at most this one, and above it from there on
+pub record IsCut {X : Type 0} (number : X → ℕ) (n : ℕ) (xs : List X) (at : ℕ) : Type 0 where
+  pub within : at ≤ length xs
+  pub low : AllWithin (λ x. number x ≤ n) xs 0 at
+  pub high : AllWithin (λ x. n < number x) xs at (length xs)
 
 -- one more belongs at this place
 pub record IsPlace {X : Type 0} (number : X → ℕ) (x : X) (xs : List X) (at : ℕ) : Type 0 where

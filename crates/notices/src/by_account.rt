@@ -1,5 +1,6 @@
 //! Which subscriptions watch which account.
 ghost use Rattle.std.specs.Prelude.{◌≡◌, ◌≤◌, ◌<◌, ◌+◌, ◌-◌, ◌^◌, ◌==◌, ◌++◌, ◌∷◌, [], ℕ, length, Some, OnOk, IfSome, if◌then◌else◌, slice_set};
+ghost use Rattle.std.specs.List.Sorted.{IsNonDecreasing};
 ghost use Rattle.notices.specs.InOrder.{put_in_order, without_first};
 ghost use Rattle.notices.specs.Places.{ids_at, room_at};
 ghost use Rattle.notices.specs.Watching.{watches, watching};
@@ -29,7 +30,8 @@ impl Model for ByAccount {
 
 // The subscriptions of an account.
 fn list_at(lists: &[Ids], account: u32) -> &[u32]
-    ensures { result.now ≡ ids_at lists.now account }
+    ensures ids { result.now ≡ ids_at lists.now account }
+    ensures ascending { IsNonDecreasing result.now }
 {
     match lists.get(account as usize) {
         Some(list) => list.as_slice(),
@@ -123,7 +125,8 @@ impl ByAccount {
 
     /// The live subscriptions that watch an account, ascending.
     pub fn watching(&self, account: u32) -> &[u32]
-        ensures { result.now ≡ watching self.now.accounts account }
+        ensures ids { result.now ≡ watching self.now.accounts account }
+        ensures ascending { IsNonDecreasing result.now }
     {
         list_at(self.lists.as_slice(), account)
     }

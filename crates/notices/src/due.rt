@@ -1,6 +1,7 @@
 //! The notices that come of a change of what was spent on an account.
 ghost use Rattle.std.specs.Prelude.{◌≡◌, ◌++◌, IfOk, OnOk, All, true, option_to_list};
 ghost use Rattle.std.specs.Option.{option_copied};
+ghost use Rattle.std.specs.List.Sorted.{IsNonDecreasing, IsNonDecreasingBy};
 ghost use Rattle.counters.specs.Subscriptions.{is_live};
 ghost use Rattle.notices.specs.Due.{notice_with, notice_of, notices_of, due, made_of, is_of, watching_for};
 
@@ -99,7 +100,9 @@ impl Watchers {
         after: u128,
         ids: &[u32],
     ) -> Result<Vec<Notice>, OutOfMemory>
-        ensures { IfOk result (λ notices. notices.items ≡ notices_of counters.now self.now.of before after ids.now) }
+        requires { IsNonDecreasing ids.now }
+        ensures notices { IfOk result (λ notices. notices.items ≡ notices_of counters.now self.now.of before after ids.now) }
+        ensures order { IfOk result (λ notices. IsNonDecreasingBy (λ n. n.id) notices.items) }
     {
         let mut notices = Vec::new(alloc);
         for id in ids {
@@ -121,7 +124,8 @@ impl Watchers {
         before: u128,
         after: u128,
     ) -> Result<Vec<Notice>, OutOfMemory>
-        ensures { IfOk result (λ notices. notices.items ≡ due counters.now self.now.of account before after) }
+        ensures notices { IfOk result (λ notices. notices.items ≡ due counters.now self.now.of account before after) }
+        ensures order { IfOk result (λ notices. IsNonDecreasingBy (λ n. n.id) notices.items) }
     {
         self.notices_of(
             alloc,
@@ -141,6 +145,7 @@ impl Watchers {
         account: u32,
     ) -> Result<Vec<u32>, OutOfMemory>
         ensures ids { IfOk result (λ ids. ids.items ≡ watching_for self.now.of supi.now account) }
+        ensures ascending { IfOk result (λ ids. IsNonDecreasing ids.items) }
         ensures live { IfOk result (λ ids. All (λ id. is_live self.now.of.contexts id ≡ true) ids.items) }
     {
         let mut found = Vec::new(alloc);

@@ -68,7 +68,8 @@ impl Ids {
 
     /// The numbers.
     pub fn as_slice(&self) -> &[u32]
-        ensures { result.now ≡ self.now.ids }
+        ensures value { result.now ≡ self.now.ids }
+        ensures ascending { IsNonDecreasing result.now }
     {
         self.inner.as_slice()
     }

@@ -9,8 +9,8 @@
 //!
 //! How it is kept: the numbers of the live subscriptions of each account stand in a list of its own, ascending
 //! (`by_account`), so that no subscription of another account is looked at. Notices wait in one list, by the numbers of
-//! their subscriptions, and are found by halves (`unsent`). What is due is worked out before anything changes, and
-//! takes the memory; `post`, `move_to` and `sent` take none.
+//! their subscriptions, found by halves (`unsent`); those of a step are put among them in one go (`merging`). What is
+//! due is worked out before anything changes, and takes the memory; `post`, `move_to` and `sent` take none.
 //!
 //! Where a rule goes: who watches what into `specs/Watching` and `by_account`; when a notice is due and what it says
 //! into `specs/Due` and `due`; what happens to subscriptions and notices into `specs/Watched` and `watchers`.
@@ -20,6 +20,7 @@ mod by_account;
 mod due;
 mod ids;
 mod laws;
+mod merging;
 mod notice;
 mod unsent;
 mod watchers;

@@ -1,33 +1,35 @@
 //! Notices that were not sent yet.
-ghost use Rattle.std.specs.Prelude.{◌≡◌, ◌≤◌, ◌<◌, ◌+◌, ℕ, [], OnOk, MatchOption};
+ghost use Rattle.std.specs.Prelude.{◌≡◌, ◌≤◌, [], OnOk, MatchOption, vec_len};
 ghost use Rattle.std.specs.Option.{option_copied};
 ghost use Rattle.std.specs.List.Sorted.{IsNonDecreasingBy};
-ghost use Rattle.notices.specs.declared.notice.Notice.{Notice as NoticeSeen};
-ghost use Rattle.notices.specs.InOrder.{put_in_order, without_first};
-ghost use Rattle.notices.specs.Places.{IsFirstAt, HasNone, IsPlace};
+ghost use Rattle.notices.specs.InOrder.{all_put, without_first};
+ghost use Rattle.notices.specs.Places.{IsFirstAt, HasNone};
 ghost use Rattle.notices.specs.Watched.{first_of, is_numbered};
 
+use crate::merging::merge;
 use crate::notice::Notice;
 use std::alloc::Global;
 use std::marker::Model;
+use std::mem::swap;
 use units::OutOfMemory;
 
 /// Notices that were not sent yet, by the numbers of their subscriptions.
 #[derive(Drop)]
 pub struct Unsent {
     inner: Vec<Notice>,
+    next: Vec<Notice>,
 }
 
 impl Model for Unsent {
-    ghost use Rattle.std.specs.Prelude.{◌-◌, vec_len, vec_capacity};
+    ghost use Rattle.std.specs.Prelude.{◌≡◌, ◌-◌, [], vec_len, vec_capacity};
     ghost use Rattle.std.specs.List.Sorted.{IsNonDecreasingBy};
     ghost use Rattle.notices.specs.Waiting.{Waiting};
 
     ghost Value = { Waiting };
 
-    ghost view = { λ u. record { notices = u.inner.items; room = vec_capacity u.inner - vec_len u.inner } };
+    ghost view = { λ u. record { notices = u.inner.items; room = vec_capacity u.next - vec_len u.inner } };
 
-    ghost invariant = { λ u. IsNonDecreasingBy (λ n. n.id) u.inner.items };
+    ghost invariant = { λ u. IsNonDecreasingBy (λ n. n.id) u.inner.items × (u.next.items ≡ []) };
 }
 
 // Where the first notice of a subscription is.
@@ -41,14 +43,6 @@ fn place_of(notices: &[Notice], id: u32) -> Option<usize>
     } else {
         None
     }
-}
-
-// Where one more notice of a subscription goes.
-fn place_for(notices: &[Notice], id: u32) -> usize
-    requires { IsNonDecreasingBy (λ n. n.id) notices.now }
-    ensures { (n : NoticeSeen) → n.id ≡ id → IsPlace (λ n. n.id) n notices.now result }
-{
-    notices.partition_point(|one| one.id <= id)
 }
 
 // The first notice of a subscription.
@@ -68,6 +62,7 @@ impl Unsent {
     {
         Unsent {
             inner: Vec::new(alloc),
+            next: Vec::new(alloc),
         }
     }
 
@@ -76,7 +71,7 @@ impl Unsent {
         ensures same { self.new.notices ≡ self.old.notices }
         ensures room { OnOk result (n ≤ self.new.room) }
     {
-        self.inner.reserve(n)?;
+        self.next.reserve(self.inner.len().saturating_add(n))?;
         Ok(())
     }
 
@@ -88,14 +83,17 @@ impl Unsent {
         self.inner.as_slice()
     }
 
-    /// Puts a notice after those of its subscription.
-    pub fn put(&mut self, notice: Notice)
-        requires { 0 < self.old.room }
-        ensures notices { self.new.notices ≡ put_in_order (λ n. n.id) self.old.notices notice }
-        ensures room { self.new.room + 1 ≡ self.old.room }
+    /// Puts notices, each after those of its subscription. All that wait are moved once.
+    pub fn put_all(&mut self, notices: Vec<Notice>)
+        requires order { IsNonDecreasingBy (λ n. n.id) notices.items }
+        requires room { vec_len notices ≤ self.old.room }
+        ensures { self.new.notices ≡ all_put (λ n. n.id) self.old.notices notices.items }
     {
-        let at = place_for(self.inner.as_slice(), notice.id);
-        let _ = self.inner.insert(at, notice);
+        if notices.is_empty() {
+            return;
+        }
+        merge(&mut self.inner, notices, &mut self.next);
+        swap(&mut self.inner, &mut self.next);
     }
 
     /// Whether the first notice of a subscription has this number.

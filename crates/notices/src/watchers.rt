@@ -3,6 +3,7 @@ ghost use Rattle.std.specs.Prelude.{◌≡◌, ◌<◌, ◌≤◌, ◌+◌, ◌-
 ghost use Rattle.std.specs.List.Sorted.{IsNonDecreasingBy};
 ghost use Rattle.counters.specs.Subscriptions.{context_of, is_live, subscribe_answer, modify_answer, remove_answer};
 ghost use Rattle.notices.specs.Watched.{nothing_watched, subscribed_on, modified, ended, moved, all_posted, is_first, sent};
+ghost use Rattle.notices.specs.Numbers.{numbers_after};
 
 use crate::by_account::ByAccount;
 use crate::notice::Notice;
@@ -41,6 +42,15 @@ fn count(numbers: &mut Vec<u32>, id: u32, number: u32)
     let at = (id as usize).saturating_sub(1);
     if at < numbers.len() {
         numbers[at] = number;
+    }
+}
+
+// The same of some notices.
+fn count_all(numbers: &mut Vec<u32>, notices: &[Notice])
+    ensures { numbers.new.items ≡ numbers_after numbers.old.items notices.now }
+{
+    for notice in notices {
+        count(numbers, notice.id, notice.number);
     }
 }
 
@@ -177,15 +187,14 @@ impl Watchers {
         }
     }
 
-    /// Notices are made, in this order. Takes no memory.
+    /// Notices are made, in the order of their subscriptions. Takes no memory.
     pub fn post(&mut self, notices: Vec<Notice>)
-        requires { vec_len notices ≤ self.old.places }
+        requires order { IsNonDecreasingBy (λ n. n.id) notices.items }
+        requires room { vec_len notices ≤ self.old.places }
         ensures { self.new.of ≡ all_posted self.old.of notices.items }
     {
-        for notice in notices {
-            count(&mut self.numbers, notice.id, notice.number);
-            self.unsent.put(notice);
-        }
+        count_all(&mut self.numbers, &notices);
+        self.unsent.put_all(notices);
     }
 
     /// The notices that were not sent yet, in the order of their subscriptions, those of one in the order in which they

@@ -1,24 +1,24 @@
-use Rattle.std.proofs.Common.{◌≡◌, sym, ap, ◌∙◌, length, arith}
-use Rattle.std.specs.Vec.Iter.{into_iter_items, into_iter_len}
-use Rattle.std.proofs.lemmas.Iterator.Consumers.{YieldsList-end}
-use Rattle.std.proofs.lemmas.Iterator.Adapters.{YieldsList-from_vec}
-use Rattle.std.proofs.lemmas.List.{map-id}
-use Rattle.notices.specs.Watched.{all_posted}
-use Rattle.notices.proofs.Answered.{posted_contexts, posted_accounts}
+use Rattle.std.proofs.Common.{length, sym, ap, ◌∙◌}
+use Rattle.notices.specs.InOrder.{all_put}
+use Rattle.notices.specs.Numbers.{numbers_after}
+use Rattle.notices.specs.Watched.{Kept}
+use Rattle.notices.proofs.Answered.{posted_contexts, posted_accounts, posted_numbers, posted_unsent}
+use Rattle.notices.proofs.Numbering.{numbers_length}
 use Rattle.notices.proofs.watchers.Watchers.post.Goals as goal
+
+pub invariant_of-self : goal.invariant_of-self
+invariant_of-self c = record {
+  aligned = c.self.invariant.aligned;
+  numbered = ap length c.count_all.ensures ∙ numbers_length c.self.inside.numbers.items c.deref.result.now ∙ c.self.invariant.numbered;
+}
 
 pub returns : goal.returns
 returns c =
     let w = c.args.self.now.of in
-    let it = c.into_iter-notice-iterator.result in
-    let items : into_iter_items it ≡ c.args.notices.items = c.into_iter-notice-iterator.ensures.into_iter_gives.0 in
-    let len : into_iter_len it ≡ length c.args.notices.items = let n = c.into_iter-notice-iterator.ensures.into_iter_gives.1 in let m = c.args.notices.ok.0 in omega arith in
-    let road = YieldsList-from_vec {s = it} c.args.notices.items items len in
-    let end = YieldsList-end road c.loop-notice.yielded c.loop-notice.notice-iterator c.loop-notice.yielded_by c.next.result c.next.new.self c.in-None.is c.next.ensures.steps in
-    let all : c.loop-notice.yielded ≡ c.args.notices.items = sym (map-id c.loop-notice.yielded) ∙ end.0 in
+    let notices = c.args.notices.items in
     (λ i. record {
-      contexts = (c.loop-notice.invariant.contexts ∙ sym (posted_contexts w c.loop-notice.yielded)) i;
-      accounts = (c.loop-notice.invariant.accounts ∙ sym (posted_accounts w c.loop-notice.yielded)) i;
-      numbers = c.loop-notice.invariant.numbers i;
-      unsent = c.loop-notice.invariant.unsent i;
-    }) ∙ ap (all_posted w) all
+      contexts = (ap (λ (k : Kept). k.of.contexts) c.self.view_is ∙ sym (posted_contexts w notices)) i;
+      accounts = (ap (λ (k : Kept). k.of.accounts) c.self.view_is ∙ sym (posted_accounts w notices)) i;
+      numbers = (c.count_all.ensures ∙ (λ j. numbers_after (ap (λ (k : Kept). k.of.numbers) c.self.view_is j) (c.deref.ensures.value j)) ∙ sym (posted_numbers w notices)) i;
+      unsent = (c.put_all.ensures ∙ ap (λ (k : Kept). all_put (λ n. n.id) k.of.unsent notices) c.self.view_is ∙ sym (posted_unsent w notices)) i;
+    })
