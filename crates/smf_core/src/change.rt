@@ -7,7 +7,7 @@ ghost use Rattle.smf_core.specs.Reads.{is_held, is_held_at, containers_of};
 ghost use Rattle.smf_core.specs.Caches.{live_after, place_at, IsMade, HasParts};
 
 use crate::draft::Draft;
-use crate::plan::Change;
+use crate::plan::{Change, Prepared};
 use crate::step::draft_after;
 use smf_model::{Holding, Place, Session, SmfEvent, SmfSetup};
 use std::alloc::Global;
@@ -100,7 +100,7 @@ fn change_from(
     places: &[usize],
     count: usize,
     draft: Draft,
-) -> Result<Change, OutOfMemory>
+) -> Result<Prepared, OutOfMemory>
     ensures { IfOk result (λ c. HasParts c draft places.now count) }
 {
     let Draft {
@@ -111,14 +111,15 @@ fn change_from(
         pending,
     } = draft;
     let places = places_left(alloc, places, count, holdings.as_slice())?;
-    Ok(Change {
+    let change = Change {
         course,
         groups,
         moved: holdings,
         places,
         rules,
         pending,
-    })
+    };
+    Prepared::of(alloc, change)
 }
 
 /// What an event makes of a session that it touches, of which only what is held is kept: where that is, and how many containers there are.
@@ -130,7 +131,7 @@ pub fn change_of(
     before: &Session,
     places: &[usize],
     count: usize,
-) -> Result<Change, OutOfMemory>
+) -> Result<Prepared, OutOfMemory>
     ensures { IfOk result (λ c. IsMade c before.now places.now count (finished setup.now now (effect_past setup.now (count - length places.now) now event.now before.now))) }
 {
     let past = count.saturating_sub(places.len());

@@ -13,7 +13,7 @@ use std::marker::Model;
 use units::{Container, Moment, OutOfMemory, TriggerType};
 
 /// What closed a container and when, and where it is.
-#[derive(Clone, Copy, Debug)]
+#[derive(Clone, Copy)]
 pub struct Stage {
     pub trigger: Option<TriggerType>,
     pub moment: Moment,

@@ -17,7 +17,7 @@ use crate::containers::Containers;
 use crate::draft::{Course, Pending};
 use crate::giving::{given_up_count, given_up_from, retell};
 use crate::marks::mark;
-use crate::plan::Change;
+use crate::plan::{Change, Prepared};
 use crate::sending::in_flight;
 use crate::step::is_touched;
 use agenda::Mark;
@@ -207,7 +207,7 @@ impl Kept {
         setup: &SmfSetup,
         now: Moment,
         event: &SmfEvent,
-    ) -> Result<Change, OutOfMemory>
+    ) -> Result<Prepared, OutOfMemory>
         ensures made { IfOk result (λ c. changed c self.old.session ≡ finished setup.now now (effect setup.now now event.now self.old.session)) }
         ensures fits { IfOk result (λ c. Fits c self.old.session) }
         ensures same { self.new.session ≡ self.old.session }
@@ -244,19 +244,19 @@ impl Kept {
         setup: &SmfSetup,
         now: Moment,
         event: &SmfEvent,
-    ) -> Result<Change, OutOfMemory>
+    ) -> Result<Prepared, OutOfMemory>
         ensures made { IfOk result (λ c. changed c self.old.session ≡ finished setup.now now (effect setup.now now event.now self.old.session)) }
         ensures fits { IfOk result (λ c. Fits c self.old.session) }
         ensures same { self.new.session ≡ self.old.session }
         ensures room { IfOk result (λ c. HasRoom c self.new) }
     {
         let change = self.change_held(alloc, setup, now, event)?;
-        self.make_spare(given_up_count(change.moved.as_slice()))?;
+        self.make_spare(given_up_count(change.moved()))?;
         Ok(change)
     }
 
-    /// Takes a change that was made for it; it takes no memory.
-    pub fn take(&mut self, change: Change)
+    // Takes a change that was made for it.
+    fn take_change(&mut self, change: Change)
         requires fits { Fits change self.old.session }
         requires room { HasRoom change self.old }
         ensures { self.new.session ≡ changed change self.old.session }
@@ -279,6 +279,15 @@ impl Kept {
         let live = only_held(moved);
         hold(&mut self.held, live.as_slice());
         settle_in(&mut self.session, course, groups, live, rules, pending);
+    }
+
+    /// Takes a change that was made for it; it takes no memory.
+    pub fn take(&mut self, change: Prepared)
+        requires fits { Fits change self.old.session }
+        requires room { HasRoom change self.old }
+        ensures { self.new.session ≡ changed change self.old.session }
+    {
+        self.take_change(change.into_change());
     }
 
     /// Its unanswered request, `None` exactly where there is none.

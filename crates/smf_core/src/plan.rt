@@ -1,11 +1,15 @@
 //! A plan: what an event makes of the machine, with all the memory that it takes.
+ghost use Rattle.std.specs.Prelude.{◌≡◌, IfOk};
+
 use crate::adding::Added;
 use crate::draft::{Course, Pending};
 use smf_model::{Entry, Holding, Rule, Seen};
-use units::{List, Moment};
+use std::alloc::Global;
+use std::marker::Model;
+use units::{List, Moment, OutOfMemory};
 
 /// What an event makes of one session: what it changes, and the places of what is held then.
-#[derive(Debug, Drop)]
+#[derive(Drop)]
 pub struct Change {
     pub course: Course,
     pub groups: List<Entry>,
@@ -18,15 +22,54 @@ pub struct Change {
     pub pending: Pending,
 }
 
+/// A change that stands apart, so that what holds it is small.
+#[derive(Drop)]
+pub struct Prepared {
+    change: Box<Change>,
+}
+
+impl Model for Prepared {
+    ghost use Rattle.smf_core.specs.declared.plan.Change.{Change};
+
+    ghost Value = { Change };
+
+    ghost view = { λ p. p.change.value };
+}
+
+impl Prepared {
+    /// It, apart.
+    pub fn of(alloc: Global, change: Change) -> Result<Prepared, OutOfMemory>
+        ensures { IfOk result (λ p. p ≡ change) }
+    {
+        let change = Box::new(alloc, change)?;
+        Ok(Prepared { change })
+    }
+
+    /// What was held before, as it is then, and the container that is opened.
+    pub fn moved(&self) -> &[Holding]
+        ensures { result.now ≡ self.now.moved }
+    {
+        self.change.moved.as_slice()
+    }
+
+    /// The change.
+    pub fn into_change(self) -> Change
+        ensures { result ≡ self }
+    {
+        let Prepared { change } = self;
+        Box::into_inner(change)
+    }
+}
+
 /// A change of the session at a place.
-#[derive(Debug, Drop)]
+#[derive(Drop)]
 pub struct Turn {
     pub at: usize,
-    pub change: Change,
+    pub change: Prepared,
 }
 
 /// The sessions that an event changes.
-#[derive(Debug, Drop)]
+#[derive(Drop)]
 pub enum Next {
     /// None.
     Nothing,
