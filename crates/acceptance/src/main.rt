@@ -16,6 +16,7 @@ mod http;
 mod lists;
 mod messages;
 mod quota_steps;
+mod record_books;
 mod reports;
 mod sending;
 mod spending;
@@ -33,7 +34,7 @@ use units::OutOfMemory;
 const INPUT_LIMIT: usize = 1 << 24;
 
 /// The tables, by the words that begin their lines.
-const TABLES: [&str; 30] = [
+const TABLES: [&str; 32] = [
     "time",
     "stamp",
     "request",
@@ -45,6 +46,8 @@ const TABLES: [&str; 30] = [
     "length",
     "once",
     "record",
+    "book",
+    "book-octets",
     "meter",
     "quota",
     "events",
@@ -84,6 +87,8 @@ fn answer_of_texts(
         ("length", [count]) => elements::length(alloc, count)?,
         ("once", [octets]) => elements::once(alloc, octets)?,
         ("record", [octets]) => charging_records::record(alloc, octets)?,
+        ("book", [limits, steps]) => record_books::closed_records(alloc, limits, steps)?,
+        ("book-octets", [limits, steps]) => record_books::closed_octets(alloc, limits, steps)?,
         _ => return Ok(None),
     };
     Ok(Some(answer))

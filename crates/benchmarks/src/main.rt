@@ -3,6 +3,7 @@
 
 mod account_turns;
 mod chf_turns;
+mod close_turns;
 mod draws;
 mod element_turns;
 mod journal_turns;
@@ -18,6 +19,7 @@ mod wire_turns;
 
 use crate::account_turns::charges;
 use crate::chf_turns::{chf_times, chf_turns};
+use crate::close_turns::close_time;
 use crate::element_turns::{hashed_records, read_records, summed_records, written_records};
 use crate::journal_turns::{append_to_file, list_of_file, print_stop};
 use crate::line_turns::parsed_lines;
@@ -214,6 +216,9 @@ fn run(rt: &HostRuntime) -> io::Result<ExitCode> {
         }
         ("smf-ticks", [sessions, count]) => {
             return print_time(rt, tick_time(rt, *sessions, *count)?);
+        }
+        ("close-all", [sessions, filled, turns]) => {
+            return print_time(rt, close_time(rt, *sessions, *filled, *turns)?);
         }
         _ => {}
     }

@@ -75,8 +75,8 @@ fn written_records(alloc: Global, count: u64) -> Result<u64, OutOfMemory> {
     Ok(octets)
 }
 
-// A container in an entry of its rating group.
-fn entries(alloc: Global, number: u64) -> Result<List<UnitUsage>, OutOfMemory>
+/// A container in an entry of its rating group.
+pub fn entries(alloc: Global, number: u64) -> Result<List<UnitUsage>, OutOfMemory>
     ensures { IfOk result AreApart }
 {
     let group = (number % 4) as u32;

@@ -5,7 +5,7 @@ use Rattle.std.proofs.lemmas.List.Sums.{sum_by-cons}
 use Rattle.records.specs.declared.record.Kept.{Kept}
 use Rattle.records.specs.declared.session.SessionKept.{SessionKept}
 use Rattle.records.specs.Closing.{has_container}
-use Rattle.records.specs.Book.{Session, closable_in, closable, entered, with_open, settled, swept, all_swept}
+use Rattle.records.specs.Book.{Session, closable_in, closable, entered, settled, swept}
 use Rattle.records.specs.Seen.{session_seen, sessions_seen, numbers_of}
 
 of : SessionKept → ℕ
@@ -62,14 +62,6 @@ settled_by : (k : Kept) (stamp : ℕ) (closed : List Kept) (b : Bool) → has_co
 settled_by k stamp closed true is = (refl, length-append closed _)
 settled_by k stamp closed false is = (ap (λ (b : Bool). cond b 1 0) is, omega arith)
 
-one_swept : (stamp : ℕ) (o : Option Kept) (closed : List Kept) → (closable_in (swept stamp o closed).0 ≡ 0) × (length (swept stamp o closed).1 ≡ length closed + closable_in o)
+pub one_swept : (stamp : ℕ) (o : Option Kept) (closed : List Kept) → (closable_in (swept stamp o closed).0 ≡ 0) × (length (swept stamp o closed).1 ≡ length closed + closable_in o)
 one_swept stamp None closed = (refl, omega arith)
 one_swept stamp (Some k) closed = settled_by k stamp closed (has_container k) refl
-
-pub all_closed : (zs : List Session) (stamp : ℕ) (closed : List Kept) → (closable (all_swept zs stamp closed).sessions ≡ 0) × (length (all_swept zs stamp closed).closed ≡ length closed + closable zs)
-all_closed [] stamp closed = (refl, omega arith)
-all_closed (z ∷ zs) stamp closed =
-    let s = one_swept stamp z.unclosed closed in
-    let r = all_closed zs stamp (swept stamp z.unclosed closed).1 in
-    let a = first (with_open (swept stamp z.unclosed closed).0 z) (all_swept zs stamp (swept stamp z.unclosed closed).1).sessions in
-    let b = first z zs in (omega arith, omega arith)

@@ -8,6 +8,7 @@ pub mod Found
 pub mod Entered
 pub mod Swept
 pub mod Closable
+pub mod EachClosable
 pub mod Begun
 pub mod Once
 pub mod InOrder

@@ -1,6 +1,7 @@
 -- The session at a place, by its number, and what a change of it or a new one does.
-use Rattle.std.proofs.Common.{◌≡◌, ◌≢◌, ℕ, zero, suc, ◌+◌, ◌<◌, ◌≤◌, eqb, ltb, cond, Bool, true, false, List, [], ◌∷◌, length, get_or, set, Option, Some, None, option_map, refl, sym, ap, ◌∙◌, subst, arith}
+use Rattle.std.proofs.Common.{◌≡◌, ◌≢◌, ℕ, zero, suc, ◌+◌, ◌<◌, ◌≤◌, eqb, ltb, cond, Bool, true, false, List, [], ◌∷◌, ◌++◌, length, take, get_or, set, Option, Some, None, option_map, refl, sym, ap, ◌∙◌, subst, arith}
 use Rattle.std.proofs.Common.{Bor}
+use Rattle.std.proofs.Math.Seq.{take-append_seam}
 use Rattle.std.specs.Option.{option_copied}
 use Rattle.std.specs.Prelude.{IfSome}
 use Rattle.std.specs.List.{insert}
@@ -184,3 +185,7 @@ session_none zs hs n same is =
 pub borrowed : {A B : Type 0} (f : A → B) (r : Option (Bor A)) → option_map (λ u. f u.now) r ≡ option_map f (option_copied r)
 borrowed f None = refl
 borrowed f (Some u) = refl
+
+-- what is written back is the whole list
+pub whole : (new rest : List SessionKept) (n : ℕ) → length new ≡ n → take n (new ++ rest) ≡ new
+whole new rest n is = ap (λ (m : ℕ). take m (new ++ rest)) (sym is) ∙ take-append_seam new rest

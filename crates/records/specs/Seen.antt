@@ -5,7 +5,7 @@ use Rattle.records.specs.declared.limits.RecordLimits.{RecordLimits}
 use Rattle.records.specs.declared.record.Kept.{Kept}
 use Rattle.records.specs.declared.session.SessionKept.{SessionKept}
 use Rattle.records.specs.Groups.{UnclosedSeen, HasRoom}
-use Rattle.records.specs.Book.{Session, Records}
+use Rattle.records.specs.Book.{Session, Records, closable_in}
 
 -- The session that one is seen as, without room (this product's own).
 abbrev pub session_seen : SessionKept → Session
@@ -42,13 +42,18 @@ abbrev pub SequencesAreWithin : ℕ → List SessionKept → Type 0
 SequencesAreWithin closed [] = ⊤
 SequencesAreWithin closed (z ∷ zs) = SequenceIsWithin closed z × SequencesAreWithin closed zs
 
+-- This holds of the number of each session whose record has a container (this product's own).
+abbrev pub EachClosable : (ℕ → Type 0) → List Session → Type 0
+EachClosable P [] = ⊤
+EachClosable P (z ∷ zs) = (0 < closable_in z.unclosed → P z.number) × EachClosable P zs
+
 -- The session of a number, with its room (this product's own).
 abbrev pub kept_of : List SessionKept → ℕ → Option SessionKept
 kept_of [] number = None
 kept_of (z ∷ zs) number = if z.number == number then Some z else kept_of zs number
 
--- A book: its limits, its records, the rooms of its sessions, the room of the session that begins next, for how many sessions more, and for how many closed
--- records more (this product's own).
+-- A book: its limits, its records, the rooms of its sessions, the room of the session that begins next, for how many
+-- sessions more there is room, and for how many calls more that add containers or close a record (this product's own).
 pub record BookSeen : Type 0 where
   pub limits : RecordLimits
   pub records : Records

@@ -10,10 +10,11 @@ ghost use Rattle.records.specs.Groups.{HasRoom, AreApart};
 ghost use Rattle.records.specs.Named.{named_as};
 ghost use Rattle.records.specs.Seen.{session_seen, sessions_seen, numbers_of, AreRising, SequenceIsWithin, SequencesAreWithin, kept_of, records_seen, HasRoomIn, HasRoomFor, IsThere, IsMissing, IsGap};
 
-use crate::by_number::{add_to, end_of, enter, found, make_room_of, sweep_all};
+use crate::by_number::{add_to, end_of, enter, found, make_room_of};
 use crate::limits::RecordLimits;
 use crate::record::{Kept, Record};
 use crate::session::SessionKept;
+use crate::touched::{note, sweep_all};
 use crate::unclosed::Unclosed;
 use std::alloc::{AllocError, Global};
 use std::marker::Model;
@@ -31,20 +32,22 @@ pub struct Book {
     closed: Vec<Kept>,
     // How many sessions have a record with a container that is not closed.
     with_container: usize,
+    // Numbers of sessions whose record got its first container since all were closed; some may have none any more.
+    touched: Vec<u32>,
     // A record with the room of the session that begins next.
     next: Unclosed,
 }
 
 impl Model for Book {
-    ghost use Rattle.std.specs.Prelude.{◌≡◌, ◌-◌, [], length, min, vec_len, vec_capacity};
+    ghost use Rattle.std.specs.Prelude.{◌≡◌, ◌-◌, [], length, min, Contains, vec_len, vec_capacity};
     ghost use Rattle.records.specs.Book.{closable};
-    ghost use Rattle.records.specs.Seen.{BookSeen, sessions_seen, numbers_of, AreRising, SequencesAreWithin};
+    ghost use Rattle.records.specs.Seen.{BookSeen, sessions_seen, numbers_of, AreRising, SequencesAreWithin, EachClosable};
 
     ghost Value = { BookSeen };
 
-    ghost view = { λ b. record { limits = b.limits; records = record { sessions = sessions_seen b.sessions.items; closed = b.closed.items }; kept = b.sessions.items; next = b.next; places = min (vec_capacity b.numbers - vec_len b.numbers) (vec_capacity b.sessions - vec_len b.sessions); spare = vec_capacity b.closed - vec_len b.closed } };
+    ghost view = { λ b. record { limits = b.limits; records = record { sessions = sessions_seen b.sessions.items; closed = b.closed.items }; kept = b.sessions.items; next = b.next; places = min (vec_capacity b.numbers - vec_len b.numbers) (vec_capacity b.sessions - vec_len b.sessions); spare = min (vec_capacity b.closed - vec_len b.closed) (vec_capacity b.touched - vec_len b.touched) } };
 
-    ghost invariant = { λ b. (b.numbers.items ≡ numbers_of b.sessions.items) × AreRising b.numbers.items × SequencesAreWithin (vec_len b.closed) b.sessions.items × (b.next.groups ≡ []) × (b.with_container ≡ closable (sessions_seen b.sessions.items)) };
+    ghost invariant = { λ b. (b.numbers.items ≡ numbers_of b.sessions.items) × AreRising b.numbers.items × SequencesAreWithin (vec_len b.closed) b.sessions.items × (b.next.groups ≡ []) × (b.with_container ≡ closable (sessions_seen b.sessions.items)) × EachClosable (Contains b.touched.items) (sessions_seen b.sessions.items) };
 }
 
 // A record with the names of its session.
@@ -78,6 +81,7 @@ impl Book {
             sessions: Vec::new(alloc),
             closed: Vec::new(alloc),
             with_container: 0,
+            touched: Vec::new(alloc),
             next: Unclosed::empty(alloc),
         }
     }
@@ -113,6 +117,7 @@ impl Book {
         self.numbers.reserve(1)?;
         self.sessions.reserve(1)?;
         self.closed.reserve(self.sessions.len() + 2)?;
+        self.touched.reserve(self.sessions.len() + 2)?;
         self.next.make_room(used)?;
         make_room_of(&self.numbers, &mut self.sessions, session, used)?;
         Ok(())
@@ -156,6 +161,7 @@ impl Book {
         ensures spare { self.old.spare ≤ self.new.spare + 1 }
         ensures limits { self.new.limits ≡ self.old.limits }
     {
+        let before = self.with_container;
         add_to(
             self.alloc,
             &self.limits,
@@ -168,6 +174,7 @@ impl Book {
             stamp,
             last,
         );
+        note(&mut self.touched, session, before, self.with_container);
     }
 
     /// A session that has begun ends, and its record is closed, also where it has no container.
@@ -200,7 +207,14 @@ impl Book {
         ensures limits { self.new.limits ≡ self.old.limits }
     {
         let count = self.with_container;
-        sweep_all(self.alloc, &mut self.sessions, &mut self.closed, stamp);
+        sweep_all(
+            self.alloc,
+            &self.numbers,
+            &mut self.sessions,
+            &mut self.closed,
+            &mut self.touched,
+            stamp,
+        );
         self.with_container = 0;
         count as u32
     }

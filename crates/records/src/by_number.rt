@@ -1,7 +1,7 @@
 //! The sessions of a book, found by their numbers.
 ghost use Rattle.std.specs.Prelude.{◌≡◌, ◌≤◌, ◌<◌, ◌+◌, ◌-◌, ◌^◌, ℕ, length, IfSome, OnOk, MatchOption, MatchResult, None, Some, vec_len, vec_capacity};
 ghost use Rattle.std.specs.Option.{option_copied};
-ghost use Rattle.records.specs.Book.{open_of, all_swept, with_one, added, ended, entered, closable};
+ghost use Rattle.records.specs.Book.{open_of, with_one, added, ended, entered, closable};
 ghost use Rattle.records.specs.Groups.{HasRoom, AreApart};
 ghost use Rattle.records.specs.Seen.{session_seen, sessions_seen, numbers_of, AreRising, SequenceIsWithin, SequencesAreWithin, kept_of, records_seen, IsThere, IsMissing, IsGap};
 
@@ -19,8 +19,8 @@ fn search(numbers: &[u32], number: u32) -> Result<usize, usize>
     numbers.binary_search(&number)
 }
 
-// The place of a number in rising ones; none exactly where it is not among them.
-fn place(numbers: &[u32], number: u32) -> Option<usize>
+/// The place of a number in rising ones; none exactly where it is not among them.
+pub fn place(numbers: &[u32], number: u32) -> Option<usize>
     requires { AreRising numbers.now }
     ensures { MatchOption result (IsMissing numbers.now number) (IsThere numbers.now number) }
 {
@@ -175,23 +175,5 @@ pub fn enter(numbers: &mut Vec<u32>, sessions: &mut Vec<SessionKept>, new: Sessi
                 Err(_) => unreachable!(),
             }
         }
-    }
-}
-
-/// Every record that has a container is closed, in order of their sessions.
-pub fn sweep_all(alloc: Global, sessions: &mut [SessionKept], closed: &mut Vec<Kept>, stamp: Moment)
-    requires spare { vec_len closed.old + length sessions.old ≤ vec_capacity closed.old }
-    requires few { vec_len closed.old + length sessions.old < 2 ^ 32 - 1 }
-    requires sequences { SequencesAreWithin (vec_len closed.old) sessions.old }
-    ensures swept { all_swept (sessions_seen sessions.old) stamp closed.old.items ≡ records_seen sessions.new closed.new.items }
-    ensures numbers { numbers_of sessions.new ≡ numbers_of sessions.old }
-    ensures sequences { SequencesAreWithin (vec_len closed.new) sessions.new }
-    ensures capacity { vec_capacity closed.new ≡ vec_capacity closed.old }
-    ensures len { vec_len closed.new ≤ vec_len closed.old + length sessions.old }
-    ensures kept { vec_len closed.old ≤ vec_len closed.new }
-    ensures none { closable (sessions_seen sessions.new) ≡ 0 }
-{
-    for session in sessions.iter_mut() {
-        session.sweep(alloc, closed, stamp);
     }
 }

@@ -10,8 +10,9 @@
 //! follows it. `by_group` puts the containers of a request in the order that a book asks for.
 //!
 //! How it is built: a record that is not closed (`unclosed`) keeps its containers by rating group (`group`), so that
-//! closing takes no memory, and its sums (`sums`), so that no call walks them; `make_room` takes all memory before. What a
-//! book keeps beside its records is in `specs/Seen`, what a record that is not closed keeps in `specs/Groups`. Reading is
+//! closing takes no memory, and its sums (`sums`), so that no call walks them; `make_room` takes all memory before.
+//! `close_all` looks only at the sessions whose record got a container since (`touched`). What a book keeps beside its
+//! records is in `specs/Seen`, what a record that is not closed keeps in `specs/Groups`. Reading is
 //! `ber`'s reader under the grammar of `place`, and then a function of the tree (`reading`); it knows no positions. A record
 //! whose fields ascend, all known and of definite lengths, as this product writes them, is read in one pass without a
 //! tree (`ordered`). Writing makes no tree: fields go from the last to the first into `ber`'s `BackwardWriter`
@@ -37,6 +38,7 @@ mod reading;
 mod record;
 mod session;
 mod sums;
+mod touched;
 mod unclosed;
 mod writing;
 

@@ -145,6 +145,23 @@ impl SessionKept {
         }
     }
 
+    // Its record has a container and is closed for management intervention, and the next one opens.
+    fn renew(&mut self, alloc: Global, closed: &mut Vec<Kept>, stamp: Moment)
+        requires container { closable_in (session_seen self.old).unclosed ≡ 1 }
+        requires spare { vec_len closed.old < vec_capacity closed.old }
+        requires few { vec_len closed.old < 2 ^ 32 - 2 }
+        requires sequence { SequenceIsWithin (vec_len closed.old) self.old }
+        ensures swept { swept stamp (session_seen self.old).unclosed closed.old.items ≡ ((session_seen self.new).unclosed, closed.new.items) }
+        ensures session { session_seen self.new ≡ with_open (session_seen self.new).unclosed (session_seen self.old) }
+        ensures capacity { vec_capacity closed.new ≡ vec_capacity closed.old }
+        ensures kept { vec_len closed.old ≤ vec_len closed.new }
+        ensures sequence { SequenceIsWithin (vec_len closed.new) self.new }
+    {
+        if let Some(record) = self.unclosed.take() {
+            self.unclosed = Some(settle(alloc, closed, record, Some(20), stamp));
+        }
+    }
+
     /// Containers come to it, for which it has room; the count of closable records is that after it, where it was that before.
     pub fn add(
         &mut self,
@@ -196,23 +213,17 @@ impl SessionKept {
 
     /// Its record is closed where it has a container, and the next one opens.
     pub fn sweep(&mut self, alloc: Global, closed: &mut Vec<Kept>, stamp: Moment)
-        requires spare { vec_len closed.old < vec_capacity closed.old }
-        requires few { vec_len closed.old < 2 ^ 32 - 2 }
+        requires spare { vec_len closed.old + closable_in (session_seen self.old).unclosed ≤ vec_capacity closed.old }
+        requires few { vec_len closed.old + closable_in (session_seen self.old).unclosed < 2 ^ 32 - 1 }
         requires sequence { SequenceIsWithin (vec_len closed.old) self.old }
         ensures swept { swept stamp (session_seen self.old).unclosed closed.old.items ≡ ((session_seen self.new).unclosed, closed.new.items) }
         ensures session { session_seen self.new ≡ with_open (session_seen self.new).unclosed (session_seen self.old) }
         ensures capacity { vec_capacity closed.new ≡ vec_capacity closed.old }
-        ensures len { vec_len closed.new ≤ vec_len closed.old + 1 }
         ensures kept { vec_len closed.old ≤ vec_len closed.new }
         ensures sequence { SequenceIsWithin (vec_len closed.new) self.new }
     {
-        if let Some(record) = self.unclosed.take() {
-            let cause = if record.has_container() {
-                Some(20)
-            } else {
-                None
-            };
-            self.unclosed = Some(settle(alloc, closed, record, cause, stamp));
+        if self.closable() == 1 {
+            self.renew(alloc, closed, stamp);
         }
     }
 }

@@ -10,3 +10,5 @@ pub mod Found
 pub mod Marked
 pub mod Several
 pub mod Told
+pub mod Stored
+pub mod InPlace

@@ -1,6 +1,7 @@
 -- The places of what is held, and what is written there.
-use Rattle.std.proofs.Common.{◌≡◌, ℕ, ◌+◌, ◌≤◌, ◌<◌, List, [], ◌∷◌, ◌++◌, length, map, filter, set, refl, sym, ◌∙◌, ap, arith, Bool, true, false, cond, append-nil, append_assoc, add-zero, add-one, ◌-◌, nat_lt, drop, get_or, zero, suc}
-use Rattle.std.proofs.lemmas.List.{map-append, length-append, drop_all}
+use Rattle.std.proofs.Common.{◌≡◌, ◌&&◌, ℕ, ◌+◌, ◌≤◌, ◌<◌, List, [], ◌∷◌, ◌++◌, length, filter, refl, sym, ◌∙◌, ap, arith, Bool, true, false, cond, append-nil, append_assoc, add-zero, add-one, ◌-◌, nat_lt, drop, get_or, suc}
+use Rattle.std.specs.List.{list_all}
+use Rattle.std.proofs.lemmas.List.{length-append, drop_all}
 use Rattle.std.proofs.lemmas.Bool.{ltb-true, ltb-false}
 use Rattle.std.proofs.Math.Seq.{set-append_seam, drop-cons}
 use Rattle.smf_model.specs.declared.session.Holding.{Holding}
@@ -84,17 +85,6 @@ put_on front (x ∷ all) next l = at (is_held x) refl next l (λ y ks m. put_on 
 pub put-merged : (all next : List Holding) → length (filter is_held all) ≤ length next → put_places (places_from 0 all) next all ≡ merged all next
 put-merged all next l = put_on [] all next l
 
--- of what is written, and of where it is written
-map-set : {A B : Type 0} (f : A → B) (xs : List A) (i : ℕ) (x : A) → map f (set xs i x) ≡ set (map f xs) i (f x)
-map-set f [] i x = refl
-map-set f (y ∷ xs) zero x = refl
-map-set f (y ∷ xs) (suc i) x = ap (λ zs. f y ∷ zs) (map-set f xs i x)
-
-pub put-map : {A B : Type 0} (f : A → B) (ps : List ℕ) (ks xs : List A) → map f (put_places ps ks xs) ≡ put_places ps (map f ks) (map f xs)
-put-map f ps [] xs = refl
-put-map f [] (k ∷ ks) xs = put-map f [] ks (xs ++ k ∷ []) ∙ ap (put_places [] (map f ks)) (map-append f xs (k ∷ []))
-put-map f (p ∷ ps) (k ∷ ks) xs = put-map f ps ks (set xs p k) ∙ ap (put_places ps (map f ks)) (map-set f xs p k)
-
 -- one more of those that took their places
 pub live_turn : (places : List ℕ) (moved : List Holding) (count i : ℕ) (h : Holding) → i < length moved → get_or moved i h ≡ h
     → live_after (drop i places) (count + (i - length places)) (drop i moved)
@@ -126,3 +116,14 @@ turn_held left rest made next total h p q turn on same more so_far =
 pub turn_past : (left rest made next total : List ℕ) (h : Bool) (q : ℕ) → left ≡ cond h (q ∷ rest) rest → h ≡ false → next ≡ made → made ++ left ≡ total → next ++ rest ≡ total
 turn_past left rest made next total h q turn off same so_far =
     ap (λ xs. xs ++ rest) same ∙ ap (λ xs. made ++ xs) (sym (turn ∙ ap (λ b. cond b (q ∷ rest) rest) off)) ∙ so_far
+
+-- where each that took a place is held, and no other came, the places are as they were
+pub same_places : (places : List ℕ) (count : ℕ) (moved : List Holding) → length moved ≡ length places → list_all is_held moved ≡ true → places ≡ live_after places count moved
+same_places [] count [] long held = refl
+same_places [] count (k ∷ ks) long held = absurd (omega (arith, long))
+same_places (p ∷ ps) count [] long held = absurd (omega (arith, long))
+same_places (p ∷ ps) count (k ∷ ks) long held = at (is_held k) held (λ more. same_places ps count ks (omega (arith, long)) more)
+  where
+    at : (b : Bool) → (b && list_all is_held ks) ≡ true → (list_all is_held ks ≡ true → ps ≡ live_after ps count ks) → p ∷ ps ≡ cond b (p ∷ live_after ps count ks) (live_after ps count ks)
+    at true h ih = ap (λ xs. p ∷ xs) (ih h)
+    at false h ih = cc

@@ -1,5 +1,5 @@
 -- What is given up of a session after a change: what is told before the first that the change gives up stays.
-use Rattle.std.proofs.Common.{◌≡◌, ℕ, zero, suc, ◌+◌, ◌-◌, ◌<◌, ◌≤◌, Bool, true, false, cond, List, [], ◌∷◌, ◌++◌, length, filter, take, drop, get_or, refl, sym, ◌∙◌, ap, subst, arith, add-one}
+use Rattle.std.proofs.Common.{◌≡◌, ℕ, suc, ◌+◌, ◌-◌, ◌<◌, ◌≤◌, Bool, true, false, cond, List, [], ◌∷◌, ◌++◌, length, filter, take, drop, get_or, refl, sym, ◌∙◌, ap, arith, add-one}
 use Rattle.std.specs.Prelude.{Option, Some, None, is_some, option_map}
 use Rattle.std.specs.List.{cons_option}
 use Rattle.std.proofs.lemmas.List.{take-append-drop, length-append, drop_all}
@@ -215,3 +215,14 @@ told_room places all moved given at enough told =
     let new : put_places places moved all ≡ merged all moved = ap (λ ps. put_places ps moved all) at ∙ put-merged all moved enough in
     let more : count (merged all moved) ≡ count all + count moved = count_merged all moved enough in
     omega (arith, ap (λ xs. length (given_up_of xs)) new, told_count (merged all moved), more, told_count all, ap length told, counted moved)
+
+-- there is a place for what is told anew
+pub told_spare : (places : List ℕ) (all moved : List Holding) (given kept : List GivenUp) (since cap : ℕ)
+    → places ≡ places_from 0 all → length (filter is_held all) ≤ length moved → given ≡ given_up_of all → since ≡ first_given_up places moved (length all)
+    → kept ≡ take (length given - given_up_count (drop since all)) given → length given + given_up_count moved ≤ cap
+    → length kept + length (given_up_of (drop since (put_places places moved all))) ≤ cap
+told_spare places all moved given kept since cap at enough told first is fits =
+    let rest : List GivenUp = given_up_of (drop since (put_places places moved all)) in
+    let anew : kept ++ rest ≡ given_up_of (put_places places moved all) = ap (λ gs. gs ++ rest) is ∙ told_anew places all moved given since at enough told first in
+    let size : length kept + length rest ≡ length (given_up_of (put_places places moved all)) = sym (length-append kept rest) ∙ ap length anew in
+    omega (arith, size, told_room places all moved given at enough told, fits)

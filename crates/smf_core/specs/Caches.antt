@@ -77,10 +77,7 @@ pub record HasParts (c : Change) (d : Draft) (before : List ℕ) (count : ℕ) :
   pub groups : c.groups ≡ d.groups
   pub moved : c.moved ≡ d.holdings
   pub pending : c.pending ≡ d.pending
-  pub containers : c.containers ≡ containers_of c.moved
-  pub live : c.live ≡ filter is_held c.moved
-  pub places : c.places ≡ live_after before count c.moved
-  pub held : c.held ≡ containers_of c.live
+  pub places : unwrap_or c.places before ≡ live_after before count c.moved
   pub rules : c.rules ≡ d.rules
 
 -- the trigger rules, which a change may leave as they are
@@ -111,16 +108,12 @@ session_with c s holdings = record {
 -- a change is what came of a session of which only what is held is kept
 pub record IsMade (c : Change) (before : Session) (at : List ℕ) (count : ℕ) (after : Session) : Type 0 where
   pub session : session_with c before c.moved ≡ after
-  pub containers : c.containers ≡ containers_of c.moved
-  pub live : c.live ≡ filter is_held c.moved
-  pub places : c.places ≡ live_after at count c.moved
-  pub held : c.held ≡ containers_of c.live
+  pub places : unwrap_or c.places at ≡ live_after at count c.moved
 
 -- what is kept of a session is right
-pub record IsKept (s : Session) (all : List Holding) (at : List ℕ) (every some : List Container) (told : List GivenUp) : Type 0 where
+pub record IsKept (s : Session) (all : List Holding) (at : List ℕ) (some : List Container) (told : List GivenUp) : Type 0 where
   pub live : s.holdings ≡ filter is_held all
   pub places : at ≡ places_from 0 all
-  pub containers : every ≡ containers_of all
   pub held : some ≡ containers_of s.holdings
   pub given_up : told ≡ given_up_of all
 

@@ -6,3 +6,4 @@ pub mod Caches
 pub mod Plan
 pub mod Marking
 pub mod Turns
+pub mod Stored

@@ -1,5 +1,5 @@
 -- A plan: what an event makes of the machine, as what it makes of the sessions that it touches and the session that it adds (this product's own).
-use Rattle.std.specs.Prelude.{◌≡◌, ◌⊎◌, ℕ, zero, suc, ◌+◌, ◌<◌, ◌≤◌, Option, Some, None, List, [], ◌∷◌, ◌++◌, length, filter, Ok, Err}
+use Rattle.std.specs.Prelude.{◌≡◌, ◌⊎◌, ℕ, zero, suc, ◌+◌, ◌<◌, ◌≤◌, Option, Some, None, unwrap_or, List, [], ◌∷◌, ◌++◌, length, filter, Ok, Err}
 use Rattle.smf_model.specs.declared.session.Session.{Session}
 use Rattle.smf_model.specs.declared.session.Machine.{Machine}
 use Rattle.smf_model.specs.declared.event.SmfEvent.{SmfEvent}
@@ -12,7 +12,7 @@ use Rattle.smf_model.specs.declared.refusal.SmfRefusal.{SmfRefusal}
 use Rattle.smf_model.specs.declared.refusal.SmfRefusal.TheVariants.{OutOfMemory}
 use Rattle.smf_model.specs.Machine.{answer_of, step}
 use Rattle.smf_core.specs.Index.{place_in}
-use Rattle.smf_core.specs.Reads.{is_held, containers_of}
+use Rattle.smf_core.specs.Reads.{is_held}
 use Rattle.smf_core.specs.Caches.{merged, places_from, session_with, KeptAs, HasRoom, numbers_of}
 use Rattle.smf_core.specs.Marking.{woken_by}
 
@@ -24,10 +24,7 @@ changed c s = session_with c s (merged s.holdings c.moved)
 pub record Fits (c : Change) (s : Session) : Type 0 where
   pub enough : length (filter is_held s.holdings) ≤ length c.moved
   pub one : length c.moved ≤ length (filter is_held s.holdings) + 1
-  pub containers : c.containers ≡ containers_of c.moved
-  pub live : c.live ≡ filter is_held c.moved
-  pub places : c.places ≡ places_from 0 (merged s.holdings c.moved)
-  pub held : c.held ≡ containers_of c.live
+  pub places : unwrap_or c.places (places_from 0 s.holdings) ≡ places_from 0 (merged s.holdings c.moved)
 
 -- at a place
 abbrev pub map_at : ℕ → (Session → Session) → List Session → List Session

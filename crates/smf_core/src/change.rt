@@ -1,12 +1,13 @@
 //! What an event changes of a session of which only what is held is kept.
-ghost use Rattle.std.specs.Prelude.{◌≡◌, ◌<◌, ◌≤◌, ◌+◌, ◌-◌, IfOk, length, map, filter, vec_len, vec_capacity};
+ghost use Rattle.std.specs.Prelude.{◌≡◌, ◌<◌, ◌+◌, ◌-◌, IfOk, length, map, filter, unwrap_or};
+ghost use Rattle.std.specs.List.{list_all};
 ghost use Rattle.smf_core.specs.Draft.{effect_past};
 ghost use Rattle.smf_model.specs.Machine.{finished};
 ghost use Rattle.smf_core.specs.Reads.{is_held, is_held_at, containers_of};
-ghost use Rattle.smf_core.specs.Caches.{live_after, place_at, put_places, IsMade, HasParts};
+ghost use Rattle.smf_core.specs.Caches.{live_after, place_at, IsMade, HasParts};
 
 use crate::draft::Draft;
-use crate::plan::Change;
+use crate::plan::{Change, Prepared};
 use crate::step::draft_after;
 use smf_model::{Holding, Place, Session, SmfEvent, SmfSetup};
 use std::alloc::Global;
@@ -71,22 +72,27 @@ fn places_after(
     Ok(next)
 }
 
-/// Others written at places, one after another; the one that is left comes at the end.
-pub fn put_all<T: Copy>(all: &mut Vec<T>, places: &[usize], next: &[T])
-    requires one { length next.now ≤ length places.now + 1 }
-    requires room { vec_len all.old < vec_capacity all.old }
-    ensures { all.new.items ≡ put_places places.now next.now all.old.items }
+// Whether each of a list is held.
+fn all_held(holdings: &[Holding]) -> bool
+    ensures { result ≡ list_all is_held holdings.now }
 {
-    for (at, item) in next.iter().enumerate() {
-        if at < places.len() {
-            let place = places[at];
-            if place < all.len() {
-                all[place] = *item;
-            }
-        } else {
-            all.push_reserved(*item);
-        }
+    holdings.iter().all(|h| is_held_holding(h))
+}
+
+// The same, where they are not as before.
+fn places_left(
+    alloc: Global,
+    places: &[usize],
+    count: usize,
+    moved: &[Holding],
+) -> Result<Option<List<usize>>, OutOfMemory>
+    ensures { IfOk result (λ r. unwrap_or r places.now ≡ live_after places.now count moved.now) }
+{
+    if moved.len() == places.len() && all_held(moved) {
+        return Ok(None);
     }
+    let next = places_after(alloc, places, count, moved)?;
+    Ok(Some(next))
 }
 
 fn change_from(
@@ -94,7 +100,7 @@ fn change_from(
     places: &[usize],
     count: usize,
     draft: Draft,
-) -> Result<Change, OutOfMemory>
+) -> Result<Prepared, OutOfMemory>
     ensures { IfOk result (λ c. HasParts c draft places.now count) }
 {
     let Draft {
@@ -104,21 +110,16 @@ fn change_from(
         rules,
         pending,
     } = draft;
-    let containers = containers_from(alloc, holdings.as_slice())?;
-    let live = held_from(alloc, holdings.as_slice())?;
-    let held = containers_from(alloc, &live)?;
-    let places = places_after(alloc, places, count, holdings.as_slice())?;
-    Ok(Change {
+    let places = places_left(alloc, places, count, holdings.as_slice())?;
+    let change = Change {
         course,
         groups,
         moved: holdings,
-        containers: List::from_vec(containers),
-        live: List::from_vec(live),
         places,
-        held: List::from_vec(held),
         rules,
         pending,
-    })
+    };
+    Prepared::of(alloc, change)
 }
 
 /// What an event makes of a session that it touches, of which only what is held is kept: where that is, and how many containers there are.
@@ -130,7 +131,7 @@ pub fn change_of(
     before: &Session,
     places: &[usize],
     count: usize,
-) -> Result<Change, OutOfMemory>
+) -> Result<Prepared, OutOfMemory>
     ensures { IfOk result (λ c. IsMade c before.now places.now count (finished setup.now now (effect_past setup.now (count - length places.now) now event.now before.now))) }
 {
     let past = count.saturating_sub(places.len());

@@ -10,6 +10,7 @@ use crate::settle::{at_once, close_holding, entry_in, is_open_in, open_container
 use meter::{Horizon, first_of, is_large, joins, trigger_before, with_report};
 use smf_model::{Entry, Holding, Place, Session};
 use std::alloc::Global;
+use std::mem;
 use units::{Container, List, Moment, OutOfMemory, Report, TriggerType};
 
 fn horizon_of(entry: Option<Entry>) -> Option<Horizon>
@@ -51,20 +52,25 @@ fn close_in(group: u32, moment: Moment, trigger: Option<TriggerType>, holding: &
     }
 }
 
+fn close_each(group: u32, moment: Moment, trigger: Option<TriggerType>, holdings: &mut [Holding])
+    ensures { holdings.new ≡ map (close_of group moment trigger) holdings.old }
+{
+    for holding in holdings.iter_mut() {
+        *holding = close_in(group, moment, trigger, holding);
+    }
+}
+
 fn closed_in(
-    alloc: Global,
     group: u32,
     moment: Moment,
     trigger: Option<TriggerType>,
-    holdings: &[Holding],
-) -> Result<Vec<Holding>, OutOfMemory>
-    ensures { IfOk result (λ v. v.items ≡ map (close_of group moment trigger) holdings.now) }
+    holdings: List<Holding>,
+) -> List<Holding>
+    ensures { result ≡ map (close_of group moment trigger) holdings }
 {
-    let next = holdings
-        .iter()
-        .map(|h| close_in(group, moment, trigger, h))
-        .collect(alloc)?;
-    Ok(next)
+    let mut next = holdings.into_vec();
+    close_each(group, moment, trigger, next.as_mut_slice());
+    List::from_vec(next)
 }
 
 // Whether the sums of a container and a report fit their types; in no session do they not.
@@ -93,18 +99,21 @@ fn extend_in(report: &Report, holding: &Holding) -> Result<Holding, OutOfMemory>
     })
 }
 
-fn all_extended(
-    alloc: Global,
-    report: &Report,
-    holdings: &[Holding],
-) -> Result<Vec<Holding>, OutOfMemory>
-    ensures { IfOk result (λ v. v.items ≡ map (extend_of report.now) holdings.now) }
+fn extend_each(report: &Report, holdings: &mut [Holding]) -> Result<(), OutOfMemory>
+    ensures { OnOk result (holdings.new ≡ map (extend_of report.now) holdings.old) }
 {
-    let mut next = Vec::new(alloc);
-    for holding in holdings {
-        next.push(extend_in(report, holding)?)?;
+    for holding in holdings.iter_mut() {
+        *holding = extend_in(report, holding)?;
     }
-    Ok(next)
+    Ok(())
+}
+
+fn all_extended(report: &Report, holdings: List<Holding>) -> Result<List<Holding>, OutOfMemory>
+    ensures { IfOk result (λ r. r ≡ map (extend_of report.now) holdings) }
+{
+    let mut next = holdings.into_vec();
+    extend_each(report, next.as_mut_slice())?;
+    Ok(List::from_vec(next))
 }
 
 fn first_holding(lsn: u32, report: &Report) -> Holding
@@ -125,39 +134,38 @@ fn any_open(group: u32, holdings: &[Holding]) -> bool
 }
 
 fn with_joined(
-    alloc: Global,
     past: usize,
     report: &Report,
-    holdings: &[Holding],
-) -> Result<Vec<Holding>, OutOfMemory>
-    ensures { IfOk result (λ v. v.items ≡ joined_past past report.now holdings.now) }
+    holdings: List<Holding>,
+) -> Result<List<Holding>, OutOfMemory>
+    ensures { IfOk result (λ r. r ≡ joined_past past report.now holdings) }
 {
-    if any_open(report.group, holdings) {
-        return all_extended(alloc, report, holdings);
+    if any_open(report.group, holdings.as_slice()) {
+        return all_extended(report, holdings);
     }
     if past >= 1 << 31 || holdings.len() >= 1 << 31 {
         return Err(OutOfMemory);
     }
-    let mut next = Vec::from_slice(alloc, holdings)?;
-    next.push(first_holding((past + holdings.len()) as u32 + 1, report))?;
+    let lsn = (past + holdings.len()) as u32 + 1;
+    let mut next = holdings;
+    next.push(first_holding(lsn, report))?;
     Ok(next)
 }
 
 // What a report makes of the containers, once this closed the group's open one.
 fn taken_after(
-    alloc: Global,
     past: usize,
     trigger: Option<TriggerType>,
     report: &Report,
-    holdings: &[Holding],
-) -> Result<Vec<Holding>, OutOfMemory>
-    ensures { IfOk result (λ v. v.items ≡ joined_past past report.now (map (close_of report.now.group report.now.moment trigger) holdings.now)) }
+    holdings: List<Holding>,
+) -> Result<List<Holding>, OutOfMemory>
+    ensures { IfOk result (λ r. r ≡ joined_past past report.now (map (close_of report.now.group report.now.moment trigger) holdings)) }
 {
     match trigger {
-        None => with_joined(alloc, past, report, holdings),
+        None => with_joined(past, report, holdings),
         Some(_) => {
-            let closed = closed_in(alloc, report.group, report.moment, trigger, holdings)?;
-            with_joined(alloc, past, report, &closed)
+            let closed = closed_in(report.group, report.moment, trigger, holdings);
+            with_joined(past, report, closed)
         }
     }
 }
@@ -176,20 +184,24 @@ fn counted_entry(report: &Report, entry: &Entry) -> Entry
     next
 }
 
-fn counted_entries(
-    alloc: Global,
-    report: &Report,
-    groups: &[Entry],
-) -> Result<Vec<Entry>, OutOfMemory>
+fn count_each(report: &Report, groups: &mut [Entry])
     requires number { report.now.number + 1 < 2 ^ 32 }
     requires sum { report.now.up + report.now.down < 2 ^ 64 }
-    ensures { IfOk result (λ v. v.items ≡ map (count_entry report.now) groups.now) }
+    ensures { groups.new ≡ map (count_entry report.now) groups.old }
 {
-    let next = groups
-        .iter()
-        .map(|e| counted_entry(report, e))
-        .collect(alloc)?;
-    Ok(next)
+    for entry in groups.iter_mut() {
+        *entry = counted_entry(report, entry);
+    }
+}
+
+fn counted_entries(report: &Report, groups: List<Entry>) -> List<Entry>
+    requires number { report.now.number + 1 < 2 ^ 32 }
+    requires sum { report.now.up + report.now.down < 2 ^ 64 }
+    ensures { result ≡ map (count_entry report.now) groups }
+{
+    let mut next = groups.into_vec();
+    count_each(report, next.as_mut_slice());
+    List::from_vec(next)
 }
 
 /// Counts a report (TS 32.255, 5.2.1).
@@ -209,13 +221,13 @@ pub fn count(
     let holdings = draft.holdings.as_slice();
     let horizon = horizon_of(entry_in(draft.groups.as_slice(), report.group));
     let trigger = closing_trigger(&horizon, report, open_container(holdings, report.group));
-    let taken = taken_after(alloc, past, trigger, report, holdings)?;
-    let groups = counted_entries(alloc, report, draft.groups.as_slice())?;
     let came = at_once(before, draft, report.group, trigger);
+    let holdings = mem::replace(&mut draft.holdings, List::new(alloc));
+    draft.holdings = taken_after(past, trigger, report, holdings)?;
+    let groups = mem::replace(&mut draft.groups, List::new(alloc));
+    draft.groups = counted_entries(report, groups);
     draft.course.last = report.moment;
     draft.course.reports += 1;
-    draft.holdings = List::from_vec(taken);
-    draft.groups = List::from_vec(groups);
     draft.course.at_once = draft.course.at_once || came;
     Ok(())
 }

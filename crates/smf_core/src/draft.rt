@@ -8,7 +8,7 @@ use std::alloc::Global;
 use units::{Handling, List, Moment, OutOfMemory, Request};
 
 /// How a session goes: all of it that is a number or a mark.
-#[derive(Clone, Copy, Debug)]
+#[derive(Clone, Copy)]
 pub struct Course {
     pub reference: Option<u32>,
     pub life: Life,
@@ -23,7 +23,7 @@ pub struct Course {
 }
 
 /// What became of the unanswered request of a session.
-#[derive(Debug, Drop)]
+#[derive(Drop)]
 pub enum Pending {
     /// It is as before.
     Same,
@@ -34,7 +34,7 @@ pub enum Pending {
 }
 
 /// A session in the course of an event: all that the event may change, beside what is before.
-#[derive(Debug, Drop)]
+#[derive(Drop)]
 pub struct Draft {
     pub course: Course,
     pub groups: List<Entry>,

@@ -2,6 +2,8 @@
 ghost use Rattle.std.specs.Prelude.{◌≡◌, ◌==◌, ◌&&◌, IfOk, OnOk, map, length};
 ghost use Rattle.std.specs.List.{list_any};
 ghost use Rattle.sessions.specs.Kept.{is_release};
+ghost use Rattle.units.specs.Limits.{most_containers};
+ghost use Rattle.smf_model.specs.declared.session.Place.TheVariants.{Frozen};
 ghost use Rattle.smf_core.specs.Draft.{whole};
 ghost use Rattle.smf_model.specs.Settle.{is_waiting, is_frozen};
 ghost use Rattle.smf_model.specs.Freeze.{waiting_count, move_oldest, dropped, is_wanting, live_operation, ending_operation, operation_in, next_operation, names_of, used_as, is_frozen_of, used_of, ask_of, usage_of, says_something, usages, is_aborting, triggers_of, request_of as request_made, freeze_entry, with_request, freeze_by, freeze_due};
@@ -226,27 +228,23 @@ fn triggers_for(alloc: Global, operation: Operation, life: Life) -> Result<List<
     Ok(list)
 }
 
-// The next request of a session.
+// The next request of a session, of whose containers these are frozen in it.
 fn next_request(
     alloc: Global,
     setup: &SmfSetup,
     now: Moment,
     operation: Operation,
+    frozen: &[Holding],
     before: &Session,
     draft: &Draft,
 ) -> Result<Request, OutOfMemory>
+    requires { frozen.now ≡ move_oldest most_containers Frozen draft.now.holdings }
     ensures { IfOk result (λ r. r ≡ request_made setup.now now (whole before.now draft.now) operation) }
 {
     let Some(number) = draft.course.count.checked_add(1) else {
         return Err(OutOfMemory);
     };
-    let holdings = moved_oldest(
-        alloc,
-        MOST_CONTAINERS,
-        Place::Frozen,
-        draft.holdings.as_slice(),
-    )?;
-    let usage = usages_in(alloc, &holdings, draft.groups.as_slice())?;
+    let usage = usages_in(alloc, frozen, draft.groups.as_slice())?;
     let consumer = copy(&setup.name)?;
     let subscriber = copy(&before.subscriber)?;
     let triggers = triggers_for(alloc, operation, draft.course.life)?;
@@ -290,13 +288,13 @@ pub fn freeze_request(
 ) -> Result<(), OutOfMemory>
     ensures { OnOk result (whole before.now draft.new ≡ with_request setup.now now operation (whole before.now draft.old)) }
 {
-    let request = next_request(alloc, setup, now, operation, before, draft)?;
     let holdings = moved_oldest(
         alloc,
         MOST_CONTAINERS,
         Place::Frozen,
         draft.holdings.as_slice(),
     )?;
+    let request = next_request(alloc, setup, now, operation, &holdings, before, draft)?;
     let groups = frozen_entries(alloc, draft.groups.as_slice())?;
     draft.course.count = request.number;
     draft.course.at_once = false;

@@ -1,10 +1,10 @@
 //! What is given up of a session, as a list that a change makes anew from the first container on that it gives up.
-ghost use Rattle.std.specs.Prelude.{IfOk, ◌≡◌, ◌≤◌, ◌<◌, ◌+◌, ◌++◌, ◌∷◌, [], drop, filter, is_some, length, vec_len, vec_capacity};
+ghost use Rattle.std.specs.Prelude.{IfOk, ◌≡◌, ◌≤◌, ◌<◌, ◌+◌, ◌-◌, ◌++◌, ◌∷◌, [], drop, filter, is_some, length, take, vec_len, vec_capacity};
 ghost use Rattle.smf_model.specs.GivenUps.{given_up_as, given_up_of, why_in};
 ghost use Rattle.smf_core.specs.Reads.{is_held};
 ghost use Rattle.smf_core.specs.Caches.{first_given_up, given_up_count, places_from, put_places};
 
-use crate::change::put_all;
+use crate::containers::{Containers, put_all};
 use smf_model::{GivenUp, Holding, Place};
 use std::alloc::Global;
 use units::OutOfMemory;
@@ -22,7 +22,7 @@ fn given_up_as(holding: &Holding) -> Option<GivenUp>
     }
 }
 
-fn is_given_up_place(place: Place) -> bool
+pub fn is_given_up_place(place: Place) -> bool
     ensures { result ≡ is_some (why_in place) }
 {
     matches!(place, Place::GivenUp(_))
@@ -66,18 +66,8 @@ fn first_given_up(places: &[usize], moved: &[Holding], count: usize) -> usize
     count
 }
 
-// The containers from a place on.
-fn from_place(holdings: &[Holding], place: usize) -> &[Holding]
-    ensures { result.now ≡ drop place holdings.now }
-{
-    if place >= holdings.len() {
-        return &[];
-    }
-    &holdings[place..]
-}
-
-// A container comes to what is told, if it is given up.
-fn tell(given: &mut Vec<GivenUp>, holding: &Holding)
+/// A container comes to what is told, if it is given up.
+pub fn tell(given: &mut Vec<GivenUp>, holding: &Holding)
     requires { vec_len given.old + length (given_up_of (holding.now ∷ [])) ≤ vec_capacity given.old }
     ensures told { given.new.items ≡ given.old.items ++ given_up_of (holding.now ∷ []) }
     ensures len { vec_len given.new ≡ vec_len given.old + length (given_up_of (holding.now ∷ [])) }
@@ -88,36 +78,29 @@ fn tell(given: &mut Vec<GivenUp>, holding: &Holding)
     }
 }
 
-// So of each of a list.
-fn tell_all(given: &mut Vec<GivenUp>, holdings: &[Holding])
-    requires { vec_len given.old + length (given_up_of holdings.now) ≤ vec_capacity given.old }
-    ensures { given.new.items ≡ given.old.items ++ given_up_of holdings.now }
+// What is given up from a place on is told no more.
+fn untell(given: &mut Vec<GivenUp>, all: &Containers, since: usize)
+    ensures items { given.new.items ≡ take (length given.old.items - given_up_count (drop since all.now.holdings)) given.old.items }
+    ensures capacity { vec_capacity given.new ≡ vec_capacity given.old }
 {
-    for holding in holdings {
-        tell(given, holding);
-    }
+    let behind = all.given_up_from(since);
+    given.truncate(given.len().saturating_sub(behind));
 }
 
 /// Containers take the places of those that were held, and what is given up is told: from the first one on that they give up it is
 /// made anew.
-pub fn retell(
-    given: &mut Vec<GivenUp>,
-    holdings: &mut Vec<Holding>,
-    places: &[usize],
-    moved: &[Holding],
-)
-    requires told { given.old.items ≡ given_up_of holdings.old.items }
-    requires places { places.now ≡ places_from 0 holdings.old.items }
-    requires enough { length (filter is_held holdings.old.items) ≤ length moved.now }
+pub fn retell(given: &mut Vec<GivenUp>, all: &mut Containers, places: &[usize], moved: &[Holding])
+    requires told { given.old.items ≡ given_up_of all.old.holdings }
+    requires places { places.now ≡ places_from 0 all.old.holdings }
+    requires enough { length (filter is_held all.old.holdings) ≤ length moved.now }
     requires one { length moved.now ≤ length places.now + 1 }
-    requires room { vec_len holdings.old < vec_capacity holdings.old }
+    requires room { 0 < all.old.room }
     requires spare { vec_len given.old + given_up_count moved.now ≤ vec_capacity given.old }
-    ensures holdings { holdings.new.items ≡ put_places places.now moved.now holdings.old.items }
-    ensures given { given.new.items ≡ given_up_of holdings.new.items }
+    ensures holdings { all.new.holdings ≡ put_places places.now moved.now all.old.holdings }
+    ensures given { given.new.items ≡ given_up_of all.new.holdings }
 {
-    let since = first_given_up(places, moved, holdings.len());
-    let behind = given_up_count(from_place(holdings, since));
-    put_all(holdings, places, moved);
-    given.truncate(given.len().saturating_sub(behind));
-    tell_all(given, from_place(holdings, since));
+    let since = first_given_up(places, moved, all.len());
+    untell(given, all, since);
+    put_all(all, places, moved);
+    all.tell_from(since, given);
 }

@@ -1,5 +1,5 @@
 //! What is kept of a session for speed.
-ghost use Rattle.std.specs.Prelude.{◌≡◌, ◌<◌, ◌≤◌, ◌+◌, IfOk, OnOk, length, map, vec_len, vec_capacity};
+ghost use Rattle.std.specs.Prelude.{◌≡◌, ◌<◌, ◌≤◌, ◌+◌, IfOk, OnOk, filter, length, map, unwrap_or, vec_len, vec_capacity};
 ghost use Rattle.std.specs.Option.{option_copied};
 ghost use Rattle.smf_model.specs.Machine.{touches, effect, finished, gate_for, expected_of};
 ghost use Rattle.smf_core.specs.Lookup.{answer_at};
@@ -7,15 +7,17 @@ ghost use Rattle.smf_model.specs.Sending.{flight_of};
 ghost use Rattle.smf_core.specs.Reads.{is_held, containers_of, held_of};
 ghost use Rattle.smf_core.specs.Marking.{mark_of};
 ghost use Rattle.smf_core.specs.Plan.{changed, Fits};
+ghost use Rattle.smf_core.specs.Draft.{request_after};
 ghost use Rattle.smf_core.specs.Caches.{places_from, HasRoom, rules_left, after_change};
 ghost use Rattle.smf_model.specs.GivenUps.{given_up_of};
 
-use crate::change::{change_of, containers_from, held_from, is_held_holding, put_all};
+use crate::change::{change_of, containers_from, held_from, is_held_holding};
 use crate::checks::{check_found, expected, gate};
-use crate::draft::{Course, Pending, request_left};
+use crate::containers::Containers;
+use crate::draft::{Course, Pending};
 use crate::giving::{given_up_count, given_up_from, retell};
 use crate::marks::mark;
-use crate::plan::Change;
+use crate::plan::{Change, Prepared};
 use crate::sending::in_flight;
 use crate::step::is_touched;
 use agenda::Mark;
@@ -25,17 +27,16 @@ use smf_model::{
 };
 use std::alloc::Global;
 use std::marker::Model;
-use std::mem;
 use units::{Container, List, Moment, OutOfMemory, Request};
 
-/// A session as the machine keeps it: what events look at, which is what is held, beside all its containers.
+/// A session as the machine keeps it: what events look at, which is what is held, beside all its containers; the places of what is held
+/// among them; and what is read of it.
 #[derive(Drop)]
 pub struct Kept {
     session: Session,
-    holdings: Vec<Holding>,
+    containers: Containers,
     places: List<usize>,
-    containers: Vec<Container>,
-    held: List<Container>,
+    held: Vec<Container>,
     given: Vec<GivenUp>,
 }
 
@@ -45,9 +46,9 @@ impl Model for Kept {
 
     ghost Value = { KeptAs };
 
-    ghost view = { λ k. record { session = full k.session k.holdings.items; room = min (vec_capacity k.holdings - vec_len k.holdings) (vec_capacity k.containers - vec_len k.containers); spare = vec_capacity k.given - vec_len k.given } };
+    ghost view = { λ k. record { session = full k.session k.containers.holdings; room = min k.containers.room (vec_capacity k.held - vec_len k.held); spare = vec_capacity k.given - vec_len k.given } };
 
-    ghost invariant = { λ k. IsKept k.session k.holdings.items k.places k.containers.items k.held k.given.items };
+    ghost invariant = { λ k. IsKept k.session k.containers.holdings k.places k.held.items k.given.items };
 }
 
 // The place of each container that is held.
@@ -61,6 +62,52 @@ fn places_of(alloc: Global, all: &[Holding]) -> Result<List<usize>, OutOfMemory>
         }
     }
     Ok(places)
+}
+
+// What of a list is held.
+fn only_held(holdings: List<Holding>) -> List<Holding>
+    ensures { result ≡ filter is_held holdings }
+{
+    let mut held = holdings.into_vec();
+    retain_held(&mut held);
+    List::from_vec(held)
+}
+
+fn retain_held(holdings: &mut Vec<Holding>)
+    ensures { holdings.new.items ≡ filter is_held holdings.old.items }
+{
+    holdings.retain(|h| is_held_holding(h));
+}
+
+// The places of what is held, which a change may leave as they are.
+fn take_places(before: &mut List<usize>, places: Option<List<usize>>)
+    ensures { before.new ≡ unwrap_or places before.old }
+{
+    if let Some(places) = places {
+        *before = places;
+    }
+}
+
+// The containers of what is held take the places of those before.
+fn hold(held: &mut Vec<Container>, live: &[Holding])
+    requires { length live.now ≤ vec_capacity held.old }
+    ensures { held.new.items ≡ containers_of live.now }
+{
+    held.clear();
+    for holding in live {
+        held.push_reserved(holding.container);
+    }
+}
+
+// The unanswered request after a change.
+fn leave_request(request: &mut Option<Request>, pending: Pending)
+    ensures { request.new ≡ request_after request.old pending }
+{
+    match pending {
+        Pending::Same => {}
+        Pending::Nothing => *request = None,
+        Pending::New(next) => *request = Some(next),
+    }
 }
 
 // A session as a change leaves what events look at.
@@ -89,8 +136,7 @@ fn settle_in(
     if let Some(rules) = rules {
         session.rules = rules;
     }
-    let request = mem::replace(&mut session.request, None);
-    session.request = request_left(request, pending);
+    leave_request(&mut session.request, pending);
 }
 
 impl Kept {
@@ -99,18 +145,17 @@ impl Kept {
         ensures { IfOk result (λ k. k.session ≡ session) }
     {
         let mut session = session;
+        let containers = Containers::of(alloc, session.holdings.as_slice())?;
         let live = held_from(alloc, session.holdings.as_slice())?;
         let places = places_of(alloc, session.holdings.as_slice())?;
-        let containers = containers_from(alloc, session.holdings.as_slice())?;
         let held = containers_from(alloc, &live)?;
         let given = given_up_from(alloc, session.holdings.as_slice())?;
-        let holdings = mem::replace(&mut session.holdings, List::from_vec(live));
+        session.holdings = List::from_vec(live);
         Ok(Kept {
             session,
-            holdings: holdings.into_vec(),
-            places,
             containers,
-            held: List::from_vec(held),
+            places,
+            held,
             given,
         })
     }
@@ -162,14 +207,14 @@ impl Kept {
         setup: &SmfSetup,
         now: Moment,
         event: &SmfEvent,
-    ) -> Result<Change, OutOfMemory>
+    ) -> Result<Prepared, OutOfMemory>
         ensures made { IfOk result (λ c. changed c self.old.session ≡ finished setup.now now (effect setup.now now event.now self.old.session)) }
         ensures fits { IfOk result (λ c. Fits c self.old.session) }
         ensures same { self.new.session ≡ self.old.session }
         ensures room { OnOk result (0 < self.new.room) }
     {
-        self.holdings.reserve(1)?;
-        self.containers.reserve(1)?;
+        self.containers.make_room()?;
+        self.held.reserve(1)?;
         let places = self.places.as_slice();
         change_of(
             alloc,
@@ -178,7 +223,7 @@ impl Kept {
             event,
             &self.session,
             places,
-            self.holdings.len(),
+            self.containers.len(),
         )
     }
 
@@ -199,19 +244,19 @@ impl Kept {
         setup: &SmfSetup,
         now: Moment,
         event: &SmfEvent,
-    ) -> Result<Change, OutOfMemory>
+    ) -> Result<Prepared, OutOfMemory>
         ensures made { IfOk result (λ c. changed c self.old.session ≡ finished setup.now now (effect setup.now now event.now self.old.session)) }
         ensures fits { IfOk result (λ c. Fits c self.old.session) }
         ensures same { self.new.session ≡ self.old.session }
         ensures room { IfOk result (λ c. HasRoom c self.new) }
     {
         let change = self.change_held(alloc, setup, now, event)?;
-        self.make_spare(given_up_count(change.moved.as_slice()))?;
+        self.make_spare(given_up_count(change.moved()))?;
         Ok(change)
     }
 
-    /// Takes a change that was made for it; it takes no memory.
-    pub fn take(&mut self, change: Change)
+    // Takes a change that was made for it.
+    fn take_change(&mut self, change: Change)
         requires fits { Fits change self.old.session }
         requires room { HasRoom change self.old }
         ensures { self.new.session ≡ changed change self.old.session }
@@ -220,27 +265,29 @@ impl Kept {
             course,
             groups,
             moved,
-            containers,
-            live,
             places,
-            held,
             rules,
             pending,
         } = change;
         retell(
             &mut self.given,
-            &mut self.holdings,
+            &mut self.containers,
             self.places.as_slice(),
             moved.as_slice(),
         );
-        put_all(
-            &mut self.containers,
-            self.places.as_slice(),
-            containers.as_slice(),
-        );
-        self.places = places;
-        self.held = held;
+        take_places(&mut self.places, places);
+        let live = only_held(moved);
+        hold(&mut self.held, live.as_slice());
         settle_in(&mut self.session, course, groups, live, rules, pending);
+    }
+
+    /// Takes a change that was made for it; it takes no memory.
+    pub fn take(&mut self, change: Prepared)
+        requires fits { Fits change self.old.session }
+        requires room { HasRoom change self.old }
+        ensures { self.new.session ≡ changed change self.old.session }
+    {
+        self.take_change(change.into_change());
     }
 
     /// Its unanswered request, `None` exactly where there is none.

@@ -10,7 +10,7 @@ ghost use Rattle.smf_core.specs.Turns.{mapped_at, AreAll, AreFrom, IsAt, with_ne
 
 use crate::checks::subject;
 use crate::kept::Kept;
-use crate::plan::{Change, Next, Turn};
+use crate::plan::{Next, Prepared, Turn};
 use agenda::Agenda;
 use smf_model::{SmfEvent, SmfSetup};
 use std::alloc::Global;
@@ -114,7 +114,7 @@ fn take_at(
     now: Moment,
     sessions: &mut [Kept],
     at: usize,
-    change: Change,
+    change: Prepared,
 )
     requires ready { IsReadyAt at change sessions.old }
     requires marks { agenda.old.marks ≡ marks_of setup.now now (sessions_of sessions.old) }

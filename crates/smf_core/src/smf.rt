@@ -10,7 +10,7 @@ ghost use Rattle.smf_core.specs.Plan.{applied, AddedIsReady, IsPlanOf, IsReady, 
 ghost use Rattle.agenda.specs.Marks.{places_from};
 ghost use Rattle.smf_core.specs.Marking.{looked_at, marks_of, woken_by};
 
-use crate::adding::{add, added_kept};
+use crate::adding::{Added, add, added_kept};
 use crate::checks::{check_missing, subject};
 use crate::index::Index;
 use crate::kept::Kept;
@@ -218,7 +218,7 @@ impl Smf {
             moment: self.moment,
             count: self.count,
             next: Next::Nothing,
-            added: None,
+            added: Added::none(),
             woken: List::new(alloc),
         }
     }

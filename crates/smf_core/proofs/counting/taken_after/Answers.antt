@@ -20,6 +20,6 @@ pub returns-in-None : goal.returns-in-None
 returns-in-None c =
     let group = c.args.report.now.group in
     let moment = c.args.report.now.moment in
-    let hs = c.args.holdings.now in
+    let hs = c.args.holdings in
     let same : hs ≡ map (close_of group moment c.args.trigger) hs = sym (ap (λ t. map (close_of group moment t) hs) c.in-None.is ∙ none_closed group moment hs) in
     if_ok c.with_joined.result _ _ (λ v e. e ∙ ap (joined_past c.args.past c.args.report.now) same) c.with_joined.ensures

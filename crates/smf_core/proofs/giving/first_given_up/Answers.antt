@@ -1,4 +1,4 @@
-use Rattle.std.proofs.Common.{◌≡◌, ℕ, ◌+◌, ◌∙◌, drop, get_or, sym, ap, cond, arith}
+use Rattle.std.proofs.Common.{ℕ, ◌+◌, ◌∙◌, drop, get_or, sym, ap, cond}
 use Rattle.smf_core.specs.Caches.{first_given_up, is_given_up}
 use Rattle.smf_core.proofs.Told.{first_turn, first_past}
 use Rattle.smf_core.proofs.giving.first_given_up.Goals as goal

@@ -1,4 +1,4 @@
-use Rattle.std.proofs.Common.{◌∙◌, ◌<◌, set, sym, ap, subst, arith}
+use Rattle.std.proofs.Common.{◌∙◌, set, sym, ap, subst, arith}
 use Rattle.smf_core.specs.Caches.{KeptAs, HasRoom, sessions_of}
 use Rattle.smf_core.specs.Marking.{marks_of}
 use Rattle.smf_core.specs.Plan.{changed, Fits}

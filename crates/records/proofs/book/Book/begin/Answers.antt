@@ -1,11 +1,13 @@
 use Rattle.std.proofs.Common.{◌≡◌, ◌∙◌, Option, Some, None, ap, refl, sym, subst, arith}
+use Rattle.std.specs.List.{Contains}
 use Rattle.records.specs.declared.record.Kept.{Kept}
 use Rattle.records.specs.declared.session.SessionKept.{SessionKept}
 use Rattle.records.specs.Groups.{UnclosedSeen, HasRoom}
 use Rattle.records.specs.Book.{Session, session_of, closable_in, closable}
-use Rattle.records.specs.Seen.{BookSeen, sessions_seen, HasRoomIn, HasRoomFor, kept_of}
+use Rattle.records.specs.Seen.{BookSeen, sessions_seen, EachClosable, HasRoomIn, HasRoomFor, kept_of}
 use Rattle.records.proofs.Begun.{room_of_same, begun}
 use Rattle.records.proofs.Closable as n
+use Rattle.records.proofs.EachClosable.{each_entered}
 use Rattle.records.proofs.Sessions as s
 use Rattle.records.proofs.book.Book.begin.Goals as goal
 
@@ -26,5 +28,11 @@ invariant_of-self c =
     let new : Session = record { number = c.args.session; subscriber = c.args.subscriber; consumer = c.args.consumer; charging_id = c.args.charging_id; unclosed = Some c.open.new.self.kept } in
     let entered = ap closable c.enter.ensures.entered in
     let more = n.begun new (sessions_seen c.self.inside.sessions.items) in
-    let none : closable_in (Some c.open.new.self.kept) ≡ 0 = ap (λ (k : Kept). closable_in (Some k)) c.open.ensures.kept in
-    (c.enter.ensures.same, c.enter.ensures.rising, c.enter.ensures.sequences _ c.self.invariant.2 (omega arith), ap (λ (u : UnclosedSeen). u.groups) c.replace-record.ensures.after ∙ c.empty.ensures.none, omega (arith, c.self.invariant.4, entered, more, none))
+    let none : closable_in (Some c.open.new.self.kept) ≡ 0 = ap (λ (k : Kept). closable_in (Some k)) c.open.ensures.kept in (
+      c.enter.ensures.same,
+      c.enter.ensures.rising,
+      c.enter.ensures.sequences _ c.self.invariant.2 (omega arith),
+      ap (λ (u : UnclosedSeen). u.groups) c.replace-record.ensures.after ∙ c.empty.ensures.none,
+      omega (arith, c.self.invariant.4, entered, more, none),
+      subst (EachClosable (Contains c.self.inside.touched.items)) (sym c.enter.ensures.entered) (each_entered (Contains c.self.inside.touched.items) new (sessions_seen c.self.inside.sessions.items) (λ some. absurd (omega (arith, none, some))) c.self.invariant.5),
+    )

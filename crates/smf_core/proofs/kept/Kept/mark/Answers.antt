@@ -10,5 +10,5 @@ pub returns : goal.returns
 returns c =
     let k = c.self.inside in
     let setup = c.args.setup.now in
-    let rest : rest_end setup k.session ≡ rest_end setup (full k.session k.holdings.items) = sym (rest_wide k.holdings.items setup k.session) ∙ ap (rest_end setup) (wide-full k.session k.holdings.items c.self.invariant.live) in
+    let rest : rest_end setup k.session ≡ rest_end setup (full k.session k.containers.holdings) = sym (rest_wide k.containers.holdings setup k.session) ∙ ap (rest_end setup) (wide-full k.session k.containers.holdings c.self.invariant.live) in
     c.mark.ensures ∙ ap (λ end. record (mark_of setup c.args.now k.session) { due = end }) rest ∙ ap (λ (x : KeptAs). mark_of setup c.args.now x.session) c.self.view_is

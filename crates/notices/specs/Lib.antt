@@ -1,0 +1,10 @@
+pub mod InOrder
+pub mod Places
+pub mod Watching
+pub mod Watched
+pub mod Numbers
+pub mod Due
+pub mod Waiting
+pub mod Steps
+pub mod Indexed
+pub mod Caches

@@ -1,0 +1,11 @@
+pub mod Utf8
+pub mod FieldTexts
+pub mod Fields
+pub mod Lines
+pub mod Separated
+pub mod Numerals
+pub mod FieldBytes
+pub mod RowsBack
+pub mod Groups
+pub mod BeforeSpace
+pub mod Sizes
