@@ -1,5 +1,5 @@
 -- Each message has a response.
-use Rattle.std.proofs.Common.{◌≡◌, ℕ, Bool, true, false, List, Option, Some, None, is_some, Result, Ok, Err, refl, ap, subst, sym}
+use Rattle.std.proofs.Common.{◌≡◌, ℕ, true, List, Option, Some, None, is_some, Result, Ok, Err, refl, subst, sym}
 use Rattle.std.specs.Prelude.{option_map}
 use Rattle.std.specs.Option.{option_and_then}
 use Rattle.units.specs.declared.refusal.JsonRefusal.{JsonRefusal}
@@ -27,7 +27,6 @@ use Rattle.chf_core.specs.Joined.{DecisionsAreJoined}
 use Rattle.chf_core.specs.Verdicts.{VerdictsSuitCommands, IsOfCommand, IsOfSpending, IsOfUnsubscribe, RefusesSubscribe, RefusesModify, RefusesUnsubscribe}
 use Rattle.charging_json.specs.Request.{request_in}
 use Rattle.spend_json.specs.Context.{context_in}
-use Rattle.charging.specs.declared.item.Method.{Method}
 use Rattle.charging.specs.Answering.{message_response, outcome_response, refused_reply, response_of, verdict_response}
 use Rattle.charging.specs.Routing.{charge_in, command_by, command_in, method_text, modify_in, subscribe_in}
 use Rattle.charging.specs.Laws.{EachMessageIsAnswered}

@@ -7,7 +7,6 @@ use Rattle.chf_core.specs.declared.decision.Verdict.{Verdict}
 use Rattle.chf_core.specs.declared.decision.Verdict.TheVariants.{Kept, Known, Refused, Fresh}
 use Rattle.chf_core.specs.State.{State}
 use Rattle.chf_core.specs.Deciding.{decision}
-use Rattle.chf_core.specs.After.{is_setup}
 use Rattle.chf_rows.specs.OperatorRow.{command_of}
 use Rattle.charging.specs.declared.item.Item.{Item}
 use Rattle.charging.specs.declared.item.Item.TheVariants.{Blank, Row, Message, Bad}

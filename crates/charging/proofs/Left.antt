@@ -1,10 +1,12 @@
 -- The items that a reader of rows has left.
-use Rattle.std.proofs.Common.{◌≡◌, ◌+◌, ℕ, List, [], ◌∷◌, length, map, refl, sym, ap, ◌∙◌, arith, Some, None}
+use Rattle.std.proofs.Common.{Bor, ◌≡◌, ◌+◌, ℕ, List, [], ◌∷◌, length, map, refl, sym, ap, ◌∙◌, arith, Some, None}
 use Rattle.csv.specs.Machine.{Read, next_record}
-use Rattle.csv.specs.Reading.{AreRecords, Reached, default_config}
+use Rattle.csv.specs.Reading.{Reached, default_config, reader_state, source_of}
 use Rattle.csv.specs.declared.parser.State.{State}
+use Rattle.csv.specs.declared.reader.Reader.{Reader}
 use Rattle.charging.specs.Items.{row_item}
-use Rattle.charging.specs.Taking.{rows_left}
+use Rattle.charging.specs.Rows.{StandsAt}
+use Rattle.charging.specs.Taking.{bytes_left, rows_left}
 use Rattle.charging.proofs.Readings.{read_less, records_from_here}
 use Rattle.charging.proofs.Whole.{are_left}
 
@@ -22,3 +24,19 @@ some_left s xs read e =
     let all = are_left default_config s xs (read.0 ∷ more.0) (more.1.0, more.1.1, (read, e, refl, more.1.2), more.1.3) in
     let rest = are_left default_config read.1 read.2 more.0 more.1 in
     ap (map row_item) (sym all ∙ ap (λ k. read.0 ∷ k) rest)
+
+-- what a reader has left, where it stands somewhere
+pub left_here : (reader : Reader (Bor (List ℕ))) (s : State) (xs : List ℕ) → StandsAt reader s xs
+    → rows_left (reader_state reader) (bytes_left (source_of (λ s. Some s.now) reader)) ≡ rows_left s xs
+left_here reader s xs h = ap (λ k. rows_left k (bytes_left (source_of (λ s. Some s.now) reader))) h.state_is ∙ ap (λ k. rows_left s (bytes_left k)) h.left_is
+
+-- and there it stands
+pub stands_here : (reader : Reader (Bor (List ℕ))) (s : State) (xs : List ℕ) → StandsAt reader s xs
+    → StandsAt reader (reader_state reader) (bytes_left (source_of (λ s. Some s.now) reader))
+stands_here reader s xs h = record {
+  trim = h.trim;
+  ready = h.ready;
+  config = h.config;
+  state_is = refl;
+  left_is = h.left_is ∙ ap (λ k. Some (bytes_left k)) (sym h.left_is);
+}

@@ -20,3 +20,5 @@ pub mod Ranges
 pub mod Causes
 pub mod Answered
 pub mod Left
+pub mod AfterSetup
+pub mod Printing

@@ -57,9 +57,14 @@ abbrev pub first_bad : ℕ → List Item → Option ℕ
 first_bad here [] = None
 first_bad here (item ∷ items) = if is_accepted item then first_bad (here + 1) items else Some here
 
+-- the number of the first item that is not accepted, and does not belong to the setup where all before these items do
+abbrev pub bad_from : Bool → ℕ → List Item → Option ℕ
+bad_from true here items = first_bad (setup_length items + here) (drop (setup_length items) items)
+bad_from false here items = first_bad here items
+
 -- the number of the first item after the setup that is not accepted
 abbrev pub bad_after_setup : List Item → Option ℕ
-bad_after_setup items = first_bad (setup_length items + 1) (drop (setup_length items) items)
+bad_after_setup items = bad_from true 1 items
 
 -- the setup, or the number of the bad item
 abbrev pub unless_bad : ChfSetup → Option ℕ → Result ChfSetup ℕ

@@ -1,5 +1,5 @@
 -- What each command does with an input: what it prints, which inputs it accepts, and at which row or line it refuses one (this product's own).
-use Rattle.std.specs.Prelude.{ℕ, ◌≡◌, ◌^◌, ◌≤◌, List, [], ◌∷◌, length, Result, Ok, Err}
+use Rattle.std.specs.Prelude.{ℕ, ◌≡◌, ◌^◌, ◌≤◌, List, length, Result, Ok, Err}
 use Rattle.units.specs.Cut.{AreWidestCuts, whole_hour}
 use Rattle.meter.specs.Contents.{AreNumbered, Contents}
 use Rattle.chf_core.specs.declared.command.Command.TheVariants.{Setup}

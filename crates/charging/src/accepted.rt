@@ -1,5 +1,5 @@
 //! Which items of an input are accepted: the setup that they give, or the first bad one.
-ghost use Rattle.std.specs.Prelude.{◌≡◌, ◌+◌, ◌-◌, ◌++◌, ◌⊎◌, ℕ, Ok, Err, IfOk, OnOk};
+ghost use Rattle.std.specs.Prelude.{◌≡◌, ◌+◌, ◌-◌, ◌++◌, ◌&&◌, not, ℕ, Ok, Err, IfOk, OnOk};
 ghost use Rattle.charging.specs.Accepted.{after_setup, bad_after_setup, is_accepted, is_blank, is_setup, number_at, outcome, row_in, setup_rows};
 ghost use Rattle.chf_rows.specs.Setup.{setup_answer};
 
@@ -100,6 +100,18 @@ fn is_accepted(alloc: Global, item: &Item) -> Result<bool, OutOfMemory>
     }
 }
 
+// Whether an item is not accepted, where it was in the setup so far or not.
+fn is_bad(alloc: Global, in_setup: &mut bool, item: &Item) -> Result<bool, OutOfMemory>
+    ensures setup { in_setup.new ≡ in_setup.old && is_setup item.now }
+    ensures bad { IfOk result (λ b. b ≡ not (in_setup.old && is_setup item.now) && not (is_accepted item.now)) }
+{
+    *in_setup = *in_setup && is_setup(item);
+    if *in_setup {
+        return Ok(false);
+    }
+    Ok(!is_accepted(alloc, item)?)
+}
+
 // The first item after the setup that is not accepted.
 fn first_bad<I: Items>(alloc: Global, items: &mut I) -> Result<Option<u32>, OutOfMemory>
     requires { I.is_sound items.old }
@@ -111,8 +123,7 @@ fn first_bad<I: Items>(alloc: Global, items: &mut I) -> Result<Option<u32>, OutO
         match items.take(alloc)? {
             None => return Ok(None),
             Some(item) => {
-                in_setup = in_setup && is_setup(&item);
-                if !in_setup && !is_accepted(alloc, &item)? {
+                if is_bad(alloc, &mut in_setup, &item)? {
                     return Ok(Some(here));
                 }
                 here = next(here)?;
@@ -132,7 +143,6 @@ fn next(number: u32) -> Result<u32, OutOfMemory>
 }
 
 // The setup, where all that follows it is accepted.
-#[tactic(auto, using(crate::proofs::Begun::begun_by))]
 fn unless_bad<I: Items>(alloc: Global, setup: ChfSetup, items: &I) -> Result<ChfSetup, RowsEnd>
     ensures ok { IfOk result (λ s. after_setup (Ok setup) (I.all items.now) ≡ Ok s) }
     ensures bad { (row : ℕ) → result ≡ Err (RowsEnd.Bad row) → after_setup (Ok setup) (I.all items.now) ≡ Err row }

@@ -260,7 +260,12 @@ pub fn printed<I: Items>(alloc: Global, setup: ChfSetup, items: &I) -> Result<Ve
 }
 
 // Answers the items that are left, then prints the accounts.
-fn push_items<I: Items>(alloc: Global, chf: &mut Chf, items: &mut I, out: &mut Vec<u8>) -> Result<(), OutOfMemory>
+fn push_items<I: Items>(
+    alloc: Global,
+    chf: &mut Chf,
+    items: &mut I,
+    out: &mut Vec<u8>,
+) -> Result<(), OutOfMemory>
     requires begun { (chf.old.state.count == 0) ≡ false }
     requires sound { I.is_sound items.old }
     ensures { OnOk result (out.new.items ≡ out.old.items ++ printed chf.old.state (I.left items.old)) }

@@ -1,5 +1,5 @@
 //! The items of an input, taken one after the other: no list of them is kept.
-ghost use Rattle.std.specs.Prelude.{◌≡◌, List as Listed, IfOk};
+ghost use Rattle.std.specs.Prelude.{◌≡◌, List as Listed, IfOk, IfSome};
 ghost use Rattle.charging.specs.declared.item.Item.{Item as Entry};
 ghost use Rattle.charging.specs.Taking.{HasTaken};
 
@@ -24,10 +24,10 @@ pub trait Items: Drop {
         ensures left { left result ≡ all self.now }
         ensures sound { is_sound result };
 
-    /// The next item; none where none is left.
+    /// The next item; none where none is left, and then it is asked no more.
     fn take(&mut self, alloc: Global) -> Result<Option<Item>, OutOfMemory>
         requires { is_sound self.old }
         ensures taken { IfOk result (λ found. HasTaken found (left self.old) (left self.new)) }
-        ensures sound { IfOk result (λ _. is_sound self.new) }
+        ensures sound { IfOk result (λ found. IfSome found (λ _. is_sound self.new)) }
         ensures all { all self.new ≡ all self.old };
 }
