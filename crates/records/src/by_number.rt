@@ -19,14 +19,38 @@ fn search(numbers: &[u32], number: u32) -> Result<usize, usize>
     numbers.binary_search(&number)
 }
 
-/// The place of a number in rising ones; none exactly where it is not among them.
-pub fn place(numbers: &[u32], number: u32) -> Option<usize>
+// The place of a number before which there are no gaps, as among references of sessions there are none; else none.
+fn guessed(numbers: &[u32], number: u32) -> Option<usize>
+    ensures { IfSome result (IsThere numbers.now number) }
+{
+    let first = *numbers.first()?;
+    let at = number.checked_sub(first)? as usize;
+    if at < numbers.len() && numbers[at] == number {
+        Some(at)
+    } else {
+        None
+    }
+}
+
+// The place of a number in rising ones, by halves; none exactly where it is not among them.
+fn place_by_halves(numbers: &[u32], number: u32) -> Option<usize>
     requires { AreRising numbers.now }
     ensures { MatchOption result (IsMissing numbers.now number) (IsThere numbers.now number) }
 {
     match search(numbers, number) {
         Ok(at) => Some(at),
         Err(_) => None,
+    }
+}
+
+/// The place of a number in rising ones; none exactly where it is not among them.
+pub fn place(numbers: &[u32], number: u32) -> Option<usize>
+    requires { AreRising numbers.now }
+    ensures { MatchOption result (IsMissing numbers.now number) (IsThere numbers.now number) }
+{
+    match guessed(numbers, number) {
+        Some(at) => Some(at),
+        None => place_by_halves(numbers, number),
     }
 }
 

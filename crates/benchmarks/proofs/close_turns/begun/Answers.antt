@@ -1,4 +1,4 @@
-use Rattle.std.proofs.Common.{◌≡◌, ◌≤◌, ℕ, sym, ap, ◌∙◌, arith}
+use Rattle.std.proofs.Common.{ap, ◌∙◌, arith}
 use Rattle.records.specs.Book.{Records, session_of}
 use Rattle.benchmarks.proofs.Begun.{others_missing}
 use Rattle.benchmarks.proofs.close_turns.begun.Goals as goal

@@ -1,0 +1,9 @@
+pub mod Utf8
+pub mod Only
+pub mod Options
+pub mod Words
+pub mod EventRows
+pub mod SetupRow
+pub mod Attempts
+pub mod Replies
+pub mod Locations

@@ -1,0 +1,13 @@
+-- Whether bytes are UTF-8.
+use Rattle.std.proofs.Common.{◌≡◌, ℕ, Bool, true, false, List, refl}
+use Rattle.std.specs.Str.{IsUtf8, is_utf8}
+use Rattle.std.proofs.lemmas.Str.{IsUtf8-from_is_utf8, is_utf8-from_IsUtf8}
+
+pub no_utf8 : (bytes : List ℕ) → ¬ (IsUtf8 bytes) → is_utf8 bytes ≡ false
+no_utf8 bytes h = by (is_utf8 bytes) refl
+  where
+    by : (b : Bool) → is_utf8 bytes ≡ b → is_utf8 bytes ≡ false
+    by true e = absurd (h (IsUtf8-from_is_utf8 bytes e))
+    by false e = e
+
+pub ruleset utf8 = (no_utf8, is_utf8-from_IsUtf8)
