@@ -1,9 +1,10 @@
 #!/usr/bin/env python3
 """tables.py: works the last column of crates/acceptance/stdin out anew, by models that know nothing of the program, and
 writes the counts of crates/acceptance/stdout. A new case is a line of stdin with anything in its last column. The
-tables once, book, book-octets, quota, events, many-events, smf-row, event-row, devices, door, link, clock, loopback,
-journal, file-disk, durable and serving have answers by hand; their lines stay as they are. Those of record are the
-lines that records.py makes. With --check nothing is written, and a line whose answer is another is a failure.
+tables once, book, book-octets, quota, events, many-events, smf-row, event-row, chf-payload, smf-payload, devices, door,
+link, clock, loopback, journal, file-disk, durable and serving have answers by hand; their lines stay as they are. Those
+of record are the lines that records.py makes. With --check nothing is written, and a line whose answer is another is a
+failure.
 """
 import sys
 from pathlib import Path
@@ -19,7 +20,8 @@ import times
 
 FOLDER = Path(__file__).resolve().parents[2] / "crates" / "acceptance"
 TABLES = (
-    "time stamp request reply spend-context spend-status counters element length once record book book-octets meter quota events many-events sending smf-row event-row devices"
+    "time stamp request reply spend-context spend-status counters element length once record book book-octets meter quota"
+    " events many-events sending smf-row event-row chf-payload smf-payload devices"
     " door link clock loopback journal file-disk durable http-request http-response http-cuts serving").split()
 OPERATIONS = dict(C="create", U="update", R="release")
 

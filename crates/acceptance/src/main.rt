@@ -15,6 +15,7 @@ mod hosting;
 mod http;
 mod lists;
 mod messages;
+mod payloads;
 mod quota_steps;
 mod record_books;
 mod reports;
@@ -34,7 +35,7 @@ use units::OutOfMemory;
 const INPUT_LIMIT: usize = 1 << 24;
 
 /// The tables, by the words that begin their lines.
-const TABLES: [&str; 32] = [
+const TABLES: [&str; 34] = [
     "time",
     "stamp",
     "request",
@@ -55,6 +56,8 @@ const TABLES: [&str; 32] = [
     "sending",
     "smf-row",
     "event-row",
+    "chf-payload",
+    "smf-payload",
     "devices",
     "door",
     "link",
@@ -69,29 +72,54 @@ const TABLES: [&str; 32] = [
     "serving",
 ];
 
-// What is answered on a case about times, messages and records.
+// What is answered on a case about times and messages.
 fn answer_of_texts(
     alloc: Global,
     table: &str,
     fields: &[&str],
 ) -> Result<Option<String>, OutOfMemory> {
-    let answer = match (table, fields) {
-        ("time", [text]) => times::time(alloc, text)?,
-        ("stamp", [octets]) => times::stamp(alloc, octets)?,
-        ("request", [operation, body]) => messages::request(alloc, operation, body)?,
-        ("reply", [status, location, body]) => messages::reply(alloc, status, location, body)?,
-        ("spend-context", [body]) => spending::context(alloc, body)?,
-        ("spend-status", [body]) => spending::status(alloc, body)?,
-        ("counters", [rows, steps]) => spending::counters(alloc, rows, steps)?,
-        ("element", [octets]) => elements::element(alloc, octets)?,
-        ("length", [count]) => elements::length(alloc, count)?,
-        ("once", [octets]) => elements::once(alloc, octets)?,
-        ("record", [octets]) => charging_records::record(alloc, octets)?,
-        ("book", [limits, steps]) => record_books::closed_records(alloc, limits, steps)?,
-        ("book-octets", [limits, steps]) => record_books::closed_octets(alloc, limits, steps)?,
-        _ => return Ok(None),
-    };
-    Ok(Some(answer))
+    match (table, fields) {
+        ("time", [text]) => times::time(alloc, text).map(Some),
+        ("stamp", [octets]) => times::stamp(alloc, octets).map(Some),
+        ("request", [operation, body]) => messages::request(alloc, operation, body).map(Some),
+        ("reply", [status, location, body]) => {
+            messages::reply(alloc, status, location, body).map(Some)
+        }
+        _ => Ok(None),
+    }
+}
+
+// What is answered on a case about spending limits.
+fn answer_of_spending(
+    alloc: Global,
+    table: &str,
+    fields: &[&str],
+) -> Result<Option<String>, OutOfMemory> {
+    match (table, fields) {
+        ("spend-context", [body]) => spending::context(alloc, body).map(Some),
+        ("spend-status", [body]) => spending::status(alloc, body).map(Some),
+        ("counters", [rows, steps]) => spending::counters(alloc, rows, steps).map(Some),
+        _ => Ok(None),
+    }
+}
+
+// What is answered on a case about charging records and the elements that they are written in.
+fn answer_of_records(
+    alloc: Global,
+    table: &str,
+    fields: &[&str],
+) -> Result<Option<String>, OutOfMemory> {
+    match (table, fields) {
+        ("element", [octets]) => elements::element(alloc, octets).map(Some),
+        ("length", [count]) => elements::length(alloc, count).map(Some),
+        ("once", [octets]) => elements::once(alloc, octets).map(Some),
+        ("record", [octets]) => charging_records::record(alloc, octets).map(Some),
+        ("book", [limits, steps]) => record_books::closed_records(alloc, limits, steps).map(Some),
+        ("book-octets", [limits, steps]) => {
+            record_books::closed_octets(alloc, limits, steps).map(Some)
+        }
+        _ => Ok(None),
+    }
 }
 
 // What is answered on a case about the machines.
@@ -100,17 +128,29 @@ fn answer_of_machines(
     table: &str,
     fields: &[&str],
 ) -> Result<Option<String>, OutOfMemory> {
-    let answer = match (table, fields) {
-        ("meter", [horizon, reports]) => reports::meter(alloc, horizon, reports)?,
-        ("quota", [steps]) => quota_steps::quota(alloc, steps)?,
-        ("events", [events]) => events::events(alloc, false, events)?,
-        ("many-events", [events]) => events::events(alloc, true, events)?,
-        ("sending", [setup, events]) => sending::sending(alloc, setup, events)?,
-        ("smf-row", [row]) => trigger_rows::smf_row(alloc, row)?,
-        ("event-row", [row]) => trigger_rows::event_row(alloc, row)?,
-        _ => return Ok(None),
-    };
-    Ok(Some(answer))
+    match (table, fields) {
+        ("meter", [horizon, reports]) => reports::meter(alloc, horizon, reports).map(Some),
+        ("quota", [steps]) => quota_steps::quota(alloc, steps).map(Some),
+        ("events", [events]) => events::events(alloc, false, events).map(Some),
+        ("many-events", [events]) => events::events(alloc, true, events).map(Some),
+        ("sending", [setup, events]) => sending::sending(alloc, setup, events).map(Some),
+        _ => Ok(None),
+    }
+}
+
+// What is answered on a case about rows and payloads.
+fn answer_of_rows(
+    alloc: Global,
+    table: &str,
+    fields: &[&str],
+) -> Result<Option<String>, OutOfMemory> {
+    match (table, fields) {
+        ("smf-row", [row]) => trigger_rows::smf_row(alloc, row).map(Some),
+        ("event-row", [row]) => trigger_rows::event_row(alloc, row).map(Some),
+        ("chf-payload", [text]) => payloads::command(alloc, text).map(Some),
+        ("smf-payload", [text]) => payloads::event(alloc, text).map(Some),
+        _ => Ok(None),
+    }
 }
 
 // What is answered on a case about devices.
@@ -120,26 +160,37 @@ fn answer_of_devices(
     fields: &[&str],
 ) -> Result<Option<String>, OutOfMemory> {
     let alloc = rt.alloc();
-    let answer = match (table, fields) {
+    match (table, fields) {
         ("devices", [words, input, reads, writes, room]) => {
-            devices::devices(alloc, words, input, reads, writes, room)?
+            devices::devices(alloc, words, input, reads, writes, room).map(Some)
         }
         ("door", [bytes, room, fails, steps]) => {
-            connections::door(alloc, bytes, room, fails, steps)?
+            connections::door(alloc, bytes, room, fails, steps).map(Some)
         }
         ("link", [bytes, room, fails, steps]) => {
-            connections::link(alloc, bytes, room, fails, steps)?
+            connections::link(alloc, bytes, room, fails, steps).map(Some)
         }
-        ("clock", [first, step, count]) => connections::clock(alloc, first, step, count)?,
-        ("loopback", [case]) => connections::loopback(rt, alloc, case)?,
-        ("journal", [limit, payload]) => disks::journal(alloc, limit, payload)?,
-        ("file-disk", [name]) => disks::file_disk(rt, alloc, name)?,
+        ("clock", [first, step, count]) => connections::clock(alloc, first, step, count).map(Some),
+        ("loopback", [case]) => connections::loopback(rt, alloc, case).map(Some),
+        _ => Ok(None),
+    }
+}
+
+// What is answered on a case about disks.
+fn answer_of_disks(
+    rt: &HostRuntime,
+    table: &str,
+    fields: &[&str],
+) -> Result<Option<String>, OutOfMemory> {
+    let alloc = rt.alloc();
+    match (table, fields) {
+        ("journal", [limit, payload]) => disks::journal(alloc, limit, payload).map(Some),
+        ("file-disk", [name]) => disks::file_disk(rt, alloc, name).map(Some),
         ("durable", [claims, limit, fails, steps]) => {
-            lists::lists(alloc, claims, limit, fails, steps)?
+            lists::lists(alloc, claims, limit, fails, steps).map(Some)
         }
-        _ => return Ok(None),
-    };
-    Ok(Some(answer))
+        _ => Ok(None),
+    }
 }
 
 // What is answered on a case about streams of HTTP messages.
@@ -148,16 +199,15 @@ fn answer_of_streams(
     table: &str,
     fields: &[&str],
 ) -> Result<Option<String>, OutOfMemory> {
-    let answer = match (table, fields) {
-        ("http-request", [octets]) => http::requests(alloc, octets)?,
-        ("http-response", [octets]) => http::responses(alloc, octets)?,
-        ("http-cuts", [kind, octets]) => cuts::cuts(alloc, kind, octets)?,
+    match (table, fields) {
+        ("http-request", [octets]) => http::requests(alloc, octets).map(Some),
+        ("http-response", [octets]) => http::responses(alloc, octets).map(Some),
+        ("http-cuts", [kind, octets]) => cuts::cuts(alloc, kind, octets).map(Some),
         ("serving", [connections, fails, replies, link_fails, most]) => {
-            hosting::hosting(alloc, connections, fails, replies, link_fails, most)?
+            hosting::hosting(alloc, connections, fails, replies, link_fails, most).map(Some)
         }
-        _ => return Ok(None),
-    };
-    Ok(Some(answer))
+        _ => Ok(None),
+    }
 }
 
 // What is answered on a case.
@@ -166,10 +216,22 @@ fn answer(rt: &HostRuntime, table: &str, fields: &[&str]) -> Result<String, OutO
     if let Some(answer) = answer_of_texts(alloc, table, fields)? {
         return Ok(answer);
     }
+    if let Some(answer) = answer_of_spending(alloc, table, fields)? {
+        return Ok(answer);
+    }
+    if let Some(answer) = answer_of_records(alloc, table, fields)? {
+        return Ok(answer);
+    }
     if let Some(answer) = answer_of_machines(alloc, table, fields)? {
         return Ok(answer);
     }
+    if let Some(answer) = answer_of_rows(alloc, table, fields)? {
+        return Ok(answer);
+    }
     if let Some(answer) = answer_of_devices(rt, table, fields)? {
+        return Ok(answer);
+    }
+    if let Some(answer) = answer_of_disks(rt, table, fields)? {
         return Ok(answer);
     }
     if let Some(answer) = answer_of_streams(alloc, table, fields)? {
