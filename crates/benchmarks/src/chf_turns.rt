@@ -77,22 +77,40 @@ fn step(alloc: Global, chf: &mut Chf, command: &Command) -> Result<bool, OutOfMe
     }
 }
 
+// The row of a session's subscriber.
+fn subscriber_row(alloc: Global, session: u32) -> Result<Command, OutOfMemory>
+    ensures { IfOk result (λ c. is_setup c ≡ false) }
+{
+    let supi = subscriber(alloc, session)?;
+    let account = account(alloc, session)?;
+    Ok(Command::Subscriber {
+        supi,
+        account,
+        barred: List::new(alloc),
+    })
+}
+
+// The row of the money of a session's account.
+fn topup_row(alloc: Global, session: u32) -> Result<Command, OutOfMemory>
+    ensures { IfOk result (λ c. is_setup c ≡ false) }
+{
+    let id = account(alloc, session)?;
+    let account = account(alloc, session)?;
+    Ok(Command::TopUp {
+        id,
+        account,
+        amount: 1_000_000_000_000,
+    })
+}
+
 // The subscriber and the account of a session, with money.
 fn add(alloc: Global, chf: &mut Chf, session: u32) -> Result<(), OutOfMemory>
     requires { (chf.old.state.count == 0) ≡ false }
     ensures { (chf.new.state.count == 0) ≡ false }
 {
-    let row = Command::Subscriber {
-        supi: subscriber(alloc, session)?,
-        account: account(alloc, session)?,
-        barred: List::new(alloc),
-    };
+    let row = subscriber_row(alloc, session)?;
     step(alloc, chf, &row)?;
-    let topup = Command::TopUp {
-        id: account(alloc, session)?,
-        account: account(alloc, session)?,
-        amount: 1_000_000_000_000,
-    };
+    let topup = topup_row(alloc, session)?;
     step(alloc, chf, &topup)?;
     Ok(())
 }
