@@ -103,16 +103,33 @@ fn topup_row(alloc: Global, session: u32) -> Result<Command, OutOfMemory>
     })
 }
 
-// The subscriber and the account of a session, with money.
-fn add(alloc: Global, chf: &mut Chf, session: u32) -> Result<(), OutOfMemory>
+// The subscriber of a session, with its account.
+fn add_subscriber(alloc: Global, chf: &mut Chf, session: u32) -> Result<(), OutOfMemory>
     requires { (chf.old.state.count == 0) ≡ false }
     ensures { (chf.new.state.count == 0) ≡ false }
 {
     let row = subscriber_row(alloc, session)?;
     step(alloc, chf, &row)?;
-    let topup = topup_row(alloc, session)?;
-    step(alloc, chf, &topup)?;
     Ok(())
+}
+
+// The money of a session's account.
+fn add_money(alloc: Global, chf: &mut Chf, session: u32) -> Result<(), OutOfMemory>
+    requires { (chf.old.state.count == 0) ≡ false }
+    ensures { (chf.new.state.count == 0) ≡ false }
+{
+    let row = topup_row(alloc, session)?;
+    step(alloc, chf, &row)?;
+    Ok(())
+}
+
+// The subscriber and the account of a session, with money.
+fn add(alloc: Global, chf: &mut Chf, session: u32) -> Result<(), OutOfMemory>
+    requires { (chf.old.state.count == 0) ≡ false }
+    ensures { (chf.new.state.count == 0) ≡ false }
+{
+    add_subscriber(alloc, chf, session)?;
+    add_money(alloc, chf, session)
 }
 
 // A machine that is set up, with a subscriber and an account with money for each session.
