@@ -191,7 +191,8 @@ impl Watchers {
     pub fn post(&mut self, notices: Vec<Notice>)
         requires order { IsNonDecreasingBy (λ n. n.id) notices.items }
         requires room { vec_len notices ≤ self.old.places }
-        ensures { self.new.of ≡ all_posted self.old.of notices.items }
+        ensures posted { self.new.of ≡ all_posted self.old.of notices.items }
+        ensures rooms { self.new.rooms ≡ self.old.rooms }
     {
         count_all(&mut self.numbers, &notices);
         self.unsent.put_all(notices);

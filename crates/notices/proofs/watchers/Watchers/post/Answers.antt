@@ -12,8 +12,8 @@ invariant_of-self c = record {
   numbered = ap length c.count_all.ensures ∙ numbers_length c.self.inside.numbers.items c.deref.result.now ∙ c.self.invariant.numbered;
 }
 
-pub returns : goal.returns
-returns c =
+pub returns-clause-posted : goal.returns-clause-posted
+returns-clause-posted c =
     let w = c.args.self.now.of in
     let notices = c.args.notices.items in
     (λ i. record {
