@@ -8,3 +8,4 @@ pub mod Location
 pub mod Information
 pub mod Reply
 pub mod ReplyWritten
+pub mod RequestBound

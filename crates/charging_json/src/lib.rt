@@ -1,8 +1,9 @@
 //! Charging messages as JSON, both ways (TS 32.291, Nchf_ConvergedCharging).
 //!
 //! What it promises: reading is one function of the JSON value (`request_of`, `reply_of`), which gives the message
-//! or its first fault in the profile's order; what is written is the compact text of the message's value, and reads
-//! back for every value in the ranges of its format.
+//! or its first fault in the profile's order; what is written is the compact text of the message's value, reads back
+//! for every value in the ranges of its format, and is for a request that was read at most ten times as long as its
+//! body (`written_requests_are_bounded`).
 //!
 //! How it is built: a source file stands beside each file of definitions. A reader is a function on the value that a
 //! body is, over the fields of `json_objects`; a writer is a function on the message, which writes token after token by
@@ -33,4 +34,4 @@ pub use location::session_location;
 pub use reply_reader::read_reply;
 pub use reply_writer::{append_reply, reply_location, reply_status, write_reply};
 pub use request_reader::read_request;
-pub use request_writer::{append_request, write_request};
+pub use request_writer::{append_request, write_request, written_requests_are_bounded};

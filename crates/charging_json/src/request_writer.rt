@@ -6,8 +6,9 @@ ghost use Rattle.json_objects.specs.Tokens.{tokens_of, field_after, fields_after
 ghost use Rattle.units.specs.Ranges.{FitsRequest};
 ghost use Rattle.charging_json.specs.Request.{request_in};
 ghost use Rattle.charging_json.specs.RequestWritten.{trigger_data, total_of, span_data, used_data, ask_data, usage_data, consumer_data, again_data, invocation_fields, request_data, container_count};
+ghost use Rattle.charging_json.specs.RequestBound.{WrittenRequestsAreBounded};
 
-use json_objects::{ObjectWriter, written_values_read_back};
+use json_objects::{ObjectWriter, bodies_hold_their_objects, written_values_read_back};
 use moments::times_read_back;
 use std::alloc::{AllocError, Global};
 use std::mem;
@@ -227,4 +228,12 @@ pub fn write_request(alloc: Global, request: &Request) -> Result<List<u8>, OutOf
     let mut out = List::from_vec(Vec::with_capacity(alloc, 512)?);
     append_request(alloc, &mut out, request)?;
     Ok(out)
+}
+
+/// What is written of a request that was read is at most ten times as long as its body: a law for proofs, which does
+/// nothing.
+pub fn written_requests_are_bounded()
+    ensures { WrittenRequestsAreBounded }
+{
+    bodies_hold_their_objects();
 }

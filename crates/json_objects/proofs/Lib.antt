@@ -5,3 +5,6 @@ mod LookUp
 mod ReadsBack
 mod Walk
 mod Listed
+mod TextSizes
+mod TokenSizes
+mod ValueSizes

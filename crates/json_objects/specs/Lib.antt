@@ -4,3 +4,4 @@ pub mod Cause
 pub mod Objects
 pub mod Tokens
 pub mod ReadBack
+pub mod Sizes

@@ -3,6 +3,7 @@ ghost use Rattle.std.specs.Prelude.{◌≡◌, ◌⊎◌, Some, None, IfOk, IfEr
 ghost use Rattle.serde_json.specs.View.{view};
 ghost use Rattle.units.specs.declared.refusal.JsonRefusal.TheVariants as refusal;
 ghost use Rattle.json_objects.specs.Body.{object_in};
+ghost use Rattle.json_objects.specs.Sizes.{BodiesHoldTheirObjects};
 
 use serde_json::Value;
 use std::alloc::Global;
@@ -28,3 +29,8 @@ pub fn read_object(alloc: Global, body: &[u8]) -> Result<Value, JsonRefusal>
         },
     }
 }
+
+/// An object that was read takes at most the bytes of its body: a law for proofs, which does nothing.
+pub fn bodies_hold_their_objects()
+    ensures { BodiesHoldTheirObjects }
+{}

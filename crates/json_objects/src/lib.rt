@@ -19,7 +19,7 @@ mod fields;
 mod lists;
 mod writer;
 
-pub use body::read_object;
+pub use body::{bodies_hold_their_objects, read_object};
 pub use cause::cause_by;
 pub use fields::{
     allowed, given, missing, name, needed_number_32, number, number_32, optional_number,
