@@ -20,9 +20,12 @@ use Rattle.chf_core.specs.Admits.{AreClear}
 use Rattle.units.specs.declared.answer.UnitInfo.{UnitInfo}
 use Rattle.std.proofs.Math.Seq.{drop-cons}
 use Rattle.chf_core.specs.Effect.{Rating, granted, deadline_of, terms_of, info_by, info_of}
+use Rattle.units.specs.declared.request.Operation.{Operation}
+use Rattle.units.specs.declared.request.Operation.TheVariants.{Create, Update, Release}
 use Rattle.units.specs.declared.request.Request.{Request}
 use Rattle.units.specs.declared.request.UnitUsage.{UnitUsage}
 use Rattle.chf_core.specs.Effect.{asks_of, charged}
+use Rattle.chf_core.specs.Spending.{spent_on}
 use Rattle.chf_core.specs.CommandMoves.{reserve_of, grants, info_for, infos_for, charges, releases, settling, closing, moves_for}
 use Rattle.chf_core.proofs.JoinedMoney.{made_more, made_settled}
 use Rattle.chf_core.proofs.Admitted.{charged_sums, owner_inserted}
@@ -259,6 +262,21 @@ pub closed_makeable : (x y : List Move) (session : ℕ) → y ≡ x ++ ReleasedA
     → AreMakeable x s → AreMakeable y s
 closed_makeable x y session e s h =
     subst (λ l. AreMakeable l s) (sym e) (makeable_more x (ReleasedAll session) s h tt tt)
+
+-- what was spent on the account stays when a Release gives back what its session still has
+pub closed_spent : (v : Draft) (moves : List Move) (op : Operation) (accounts : Money) (t : Target)
+    → moves ≡ v.moves ++ closing op t → Holds v accounts t
+    → v.used ≡ spent_on (made moves accounts) (Some t.account)
+closed_spent v moves op accounts t e h =
+    h.used
+    ∙ sym (ap (λ x. spent_on (made x accounts) (Some t.account)) e
+    ∙ ap (λ z. spent_on z (Some t.account)) (made_more v.moves (closing op t) accounts) ∙ by op)
+  where
+    by : (o : Operation) → spent_on (made (closing o t) (drafted v accounts)) (Some t.account)
+        ≡ spent_on (drafted v accounts) (Some t.account)
+    by Create = refl
+    by (Update r) = refl
+    by (Release r) = refl
 
 -- what was charged and released, in the order of the request
 pub settled_moves : (rates : List (List (List ℕ))) (t : Target) (usage used : List UnitUsage) (u v w : Draft)

@@ -6,7 +6,7 @@ use Rattle.units.specs.declared.request.Request.{Request}
 use Rattle.accounts.specs.Endings.{count_ending, Until}
 use Rattle.records.specs.Book.{closable}
 use Rattle.chf_core.specs.declared.command.Command.{Command}
-use Rattle.chf_core.specs.declared.command.Command.TheVariants.{Setup, Charge, Subscriber, TopUp, Expire, CloseRecords, Subscribe, Modify, Unsubscribe}
+use Rattle.chf_core.specs.declared.command.Command.TheVariants.{Setup, Charge, Subscriber, TopUp, Expire, CloseRecords, Subscribe, Modify, Unsubscribe, NoticeSent}
 use Rattle.chf_core.specs.declared.command.Outcome.{Outcome}
 use Rattle.chf_core.specs.declared.command.Outcome.TheVariants.{Charged, Done, Spending, Removed}
 use Rattle.chf_core.specs.declared.decision.Verdict.TheVariants.{Fresh, Refused, Known}
@@ -18,13 +18,15 @@ use Rattle.chf_core.specs.declared.subscription.Subscription.{Subscription}
 use Rattle.units.specs.declared.spending.SpendContext.{SpendContext}
 use Rattle.counters.specs.Subscriptions.{context_of}
 use Rattle.counters.specs.Watching.{are_known}
-use Rattle.chf_core.specs.Spending.{counters_in, contexts, status_for}
+use Rattle.notices.specs.Watched.{is_first}
+use Rattle.chf_core.specs.Spending.{counters_in, status_for}
+use Rattle.chf_core.specs.Watched.{watched, contexts}
 use Rattle.chf_core.specs.Operator.{name_eq, setup_of, subscription_of, account_number, topup_of}
 use Rattle.chf_core.specs.Sessions.{named_by}
 use Rattle.chf_core.specs.Keys.{key_of, place_of, command_at, is_repeat}
 use Rattle.chf_core.specs.Money.{money, first_reply}
 use Rattle.chf_core.specs.Filed.{book}
-use Rattle.chf_core.specs.Decisions.{decision, at_key, at_place, at_new, at_new_create, at_new_later, at_kept, last_of, decide_subscriber, decide_again, decide_topup, decide_counted, same_row, decide_known, decide_subscribe, decide_modify, decide_unsubscribe}
+use Rattle.chf_core.specs.Decisions.{decision, at_key, at_place, at_new, at_new_create, at_new_later, at_kept, last_of, decide_subscriber, decide_again, decide_topup, decide_counted, same_row, decide_known, decide_subscribe, decide_modify, decide_unsubscribe, decide_first}
 use Rattle.chf_core.specs.Outcomes.{outcome_of}
 
 module _ (a : List Command) (q : Request) (o : Outcome) where
@@ -92,6 +94,10 @@ of_unsubscribe : (o : Outcome) (last : Option SpendContext) → decide_unsubscri
 of_unsubscribe o None e = absurd (cc)
 of_unsubscribe o (Some last) e = cc
 
+of_first : (o : Outcome) (b : Bool) → decide_first b ≡ Fresh o → o ≡ Done
+of_first o true e = cc
+of_first o false e = absurd (cc)
+
 pub fresh_is : (a : List Command) (c : Command) (o : Outcome) → decision a c ≡ Fresh o → o ≡ outcome_of a c
 fresh_is a (Setup setup) o e = cc
 fresh_is a (Charge q) o e = fresh_request a q o e
@@ -104,3 +110,4 @@ fresh_is a (Subscribe context) o e =
 fresh_is a (Modify id context) o e =
     of_modify o (Spending id (status_for a context)) (context_of (contexts a) id) context.supi (are_known (counters_in (setup_of a)) context.counters) e
 fresh_is a (Unsubscribe id) o e = of_unsubscribe o (context_of (contexts a) id) e
+fresh_is a (NoticeSent id number) o e = of_first o (is_first (watched a) id number) e

@@ -7,7 +7,7 @@ use Rattle.units.specs.declared.request.Request.{Request}
 use Rattle.accounts.specs.Endings.{count_ending, Until}
 use Rattle.records.specs.Book.{closable}
 use Rattle.chf_core.specs.declared.command.Command.{Command}
-use Rattle.chf_core.specs.declared.command.Command.TheVariants.{Setup, Charge, Subscriber, TopUp, Expire, CloseRecords, Subscribe, Modify, Unsubscribe}
+use Rattle.chf_core.specs.declared.command.Command.TheVariants.{Setup, Charge, Subscriber, TopUp, Expire, CloseRecords, Subscribe, Modify, Unsubscribe, NoticeSent}
 use Rattle.chf_core.specs.declared.command.Outcome.TheVariants.{Done, Removed}
 use Rattle.chf_core.specs.declared.decision.Verdict.{Verdict}
 use Rattle.chf_core.specs.declared.decision.Verdict.TheVariants.{Fresh, Refused, Known}
@@ -19,10 +19,11 @@ use Rattle.chf_core.specs.declared.subscription.Subscription.{Subscription}
 use Rattle.units.specs.declared.spending.SpendContext.{SpendContext}
 use Rattle.counters.specs.Subscriptions.{context_of}
 use Rattle.counters.specs.Watching.{are_known}
+use Rattle.notices.specs.Watched.{is_first}
 use Rattle.chf_core.specs.declared.command.Outcome.{Outcome}
 use Rattle.chf_core.specs.Operator.{name_eq}
 use Rattle.chf_core.specs.Spending.{counters_in}
-use Rattle.chf_core.specs.Decisions.{is_fresh, last_of, at_kept, same_row, decide_subscriber, decide_again, decide_topup, decide_counted, decide_known, decide_subscribe, decide_modify, decide_unsubscribe}
+use Rattle.chf_core.specs.Decisions.{is_fresh, last_of, at_kept, same_row, decide_subscriber, decide_again, decide_topup, decide_counted, decide_known, decide_subscribe, decide_modify, decide_unsubscribe, decide_first}
 use Rattle.chf_core.specs.State.{State, at_text, account_named, named_by, key_of, place_of, kept_at}
 use Rattle.chf_core.specs.Deciding.{outcome_of, is_repeat, fresh_charge, at_new_create, at_new_later, at_new, at_place, at_key, decision}
 
@@ -102,6 +103,10 @@ of_unsubscribe : (last : Option SpendContext) → Tells (Fresh Removed) (decide_
 of_unsubscribe None e = absurd (false≢true e)
 of_unsubscribe (Some last) e = refl
 
+of_first : (b : Bool) → Tells (Fresh Done) (decide_first b)
+of_first true e = refl
+of_first false e = absurd (false≢true e)
+
 -- so each command
 pub fresh_in : (s : State) (c : Command) → Tells (Fresh (outcome_of s c)) (decision s c)
 fresh_in s (Setup setup) e = refl
@@ -113,5 +118,6 @@ fresh_in s (CloseRecords moment) e = of_counted (closable s.book.sessions) e
 fresh_in s (Subscribe context) e =
     of_subscribe (outcome_of s (Subscribe context)) (at_text s.subscribers context.supi) (are_known (counters_in s.setup) context.counters) e
 fresh_in s (Modify id context) e =
-    of_modify (outcome_of s (Modify id context)) (context_of s.contexts id) context.supi (are_known (counters_in s.setup) context.counters) e
-fresh_in s (Unsubscribe id) e = of_unsubscribe (context_of s.contexts id) e
+    of_modify (outcome_of s (Modify id context)) (context_of s.watched.contexts id) context.supi (are_known (counters_in s.setup) context.counters) e
+fresh_in s (Unsubscribe id) e = of_unsubscribe (context_of s.watched.contexts id) e
+fresh_in s (NoticeSent id number) e = of_first (is_first s.watched id number) e

@@ -114,7 +114,7 @@ target_by_is Create a q = λ i. opened_target (length (sessions_are a i)) (accou
 target_by_is (Update r) a q = λ i. named_target r (by_reference (sessions_are a i) r)
 target_by_is (Release r) a q = λ i. named_target r (by_reference (sessions_are a i) r)
 
-target_is : (a : List Command) (q : Request) → target_of (state_of a) q ≡ money.target_of a q
+pub target_is : (a : List Command) (q : Request) → target_of (state_of a) q ≡ money.target_of a q
 target_is a q = target_by_is q.operation a q
 
 -- ---- the accounts

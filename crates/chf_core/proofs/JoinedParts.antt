@@ -9,7 +9,7 @@ use Rattle.units.specs.declared.request.Operation.{Operation}
 use Rattle.units.specs.declared.request.Operation.TheVariants.{Create, Update, Release}
 use Rattle.units.specs.declared.request.Request.{Request}
 use Rattle.chf_core.specs.declared.command.Command.{Command}
-use Rattle.chf_core.specs.declared.command.Command.TheVariants.{Setup, Charge, Subscriber, TopUp, CloseRecords, Subscribe, Modify, Unsubscribe}
+use Rattle.chf_core.specs.declared.command.Command.TheVariants.{Setup, Charge, Subscriber, TopUp, CloseRecords}
 use Rattle.chf_core.specs.declared.session.Session.{Session}
 use Rattle.chf_core.specs.declared.subscription.Subscription.{Subscription}
 use Rattle.chf_core.specs.declared.subscription.Sum.{Sum}
@@ -23,8 +23,6 @@ use Rattle.chf_core.specs.Keys.{key_in}
 use Rattle.chf_core.specs.State.{Texts, at_text, with_text, account_named, account_for, name_of, reference_in, reference_of, session_for, named_by, key_by, key_of}
 use Rattle.chf_core.specs.Filings.{limits_in, filings_by, filed}
 use Rattle.chf_core.specs.Filed.{filings_in, book}
-use Rattle.counters.specs.Subscriptions.{subscribed, with_context}
-use Rattle.chf_core.specs.Spending.{contexts}
 use Rattle.chf_core.specs.After.{state_of}
 use Rattle.chf_core.proofs.Places.{reverse_push}
 
@@ -180,15 +178,6 @@ book_is (Charge q ∷ a) = λ i.
 book_is (CloseRecords moment ∷ a) =
     λ i. filed (limits_in (setup_is a i)) (filings_in a (CloseRecords moment)) (book_is a i)
 book_is (c ∷ a) = book_is a
-
--- ---- subscriptions to spending limits
-
-pub contexts_are : (a : List Command) → (state_of a).contexts ≡ contexts a
-contexts_are [] = refl
-contexts_are (Subscribe context ∷ a) = λ i. subscribed (contexts_are a i) context
-contexts_are (Modify id context ∷ a) = λ i. with_context (contexts_are a i) id (Some context)
-contexts_are (Unsubscribe id ∷ a) = λ i. with_context (contexts_are a i) id None
-contexts_are (c ∷ a) = contexts_are a
 
 -- ---- the session that a request names
 

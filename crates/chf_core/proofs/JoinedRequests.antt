@@ -8,11 +8,12 @@ use Rattle.units.specs.declared.request.Request.{Request}
 use Rattle.units.specs.declared.spending.SpendContext.{SpendContext}
 use Rattle.counters.specs.Subscriptions.{context_of}
 use Rattle.counters.specs.Watching.{are_known}
+use Rattle.notices.specs.Watched.{is_first}
 use Rattle.sessions.specs.Content.{content}
 use Rattle.accounts.specs.Endings.{count_ending, Until}
 use Rattle.records.specs.Book.{closable}
 use Rattle.chf_core.specs.declared.command.Command.{Command}
-use Rattle.chf_core.specs.declared.command.Command.TheVariants.{Setup, Charge, Subscriber, TopUp, Expire, CloseRecords, Subscribe, Modify, Unsubscribe}
+use Rattle.chf_core.specs.declared.command.Command.TheVariants.{Setup, Charge, Subscriber, TopUp, Expire, CloseRecords, Subscribe, Modify, Unsubscribe, NoticeSent}
 use Rattle.chf_core.specs.declared.command.Outcome.TheVariants.{Charged, Spending}
 use Rattle.chf_core.specs.declared.decision.Verdict.TheVariants.{Fresh, Refused}
 use Rattle.chf_core.specs.declared.refusal.ChfRefusal.TheVariants.{SessionClosed, SequencePassed}
@@ -26,7 +27,7 @@ use Rattle.chf_core.specs.Keys as keys
 use Rattle.chf_core.specs.Keys.{key, key_eq, key_in, is_key}
 use Rattle.chf_core.specs.Money as money
 use Rattle.chf_core.specs.Decisions as decisions
-use Rattle.chf_core.specs.Decisions.{last_of, at_kept, decide_subscriber, decide_topup, decide_counted, decide_subscribe, decide_modify, decide_unsubscribe, same_row}
+use Rattle.chf_core.specs.Decisions.{last_of, at_kept, decide_subscriber, decide_topup, decide_counted, decide_subscribe, decide_modify, decide_unsubscribe, decide_first, same_row}
 use Rattle.chf_core.specs.Spending as spending
 use Rattle.chf_core.specs.Spending.{counters_in, spent_on, status_by}
 use Rattle.chf_core.specs.State.{State, session_at, key_by, key_of, kept_key, place_of, kept_at}
@@ -36,8 +37,9 @@ use Rattle.chf_core.specs.After.{entry_of, entered, state_of}
 use Rattle.chf_core.specs.Joined.{request_of, request_at, IsLeftBy}
 use Rattle.chf_core.proofs.Places.{eq_yes, eq_no}
 use Rattle.chf_core.proofs.Named.{place_within, same_number}
-use Rattle.chf_core.proofs.JoinedParts.{setup_is, count_is, names_are, number_is, subscribers_are, topups_are, sessions_are, key_is, references_are, book_is, contexts_are, account_is, named_is}
+use Rattle.chf_core.proofs.JoinedParts.{setup_is, count_is, names_are, number_is, subscribers_are, topups_are, sessions_are, key_is, references_are, book_is, account_is, named_is}
 use Rattle.chf_core.proofs.JoinedMoney.{money_is, moves_are, reply_is}
+use Rattle.chf_core.proofs.JoinedWatched.{watched_are}
 
 -- ---- kept requests
 
@@ -235,11 +237,12 @@ decision_is a (Expire moment) = λ i. decide_counted (count_ending (money_is a i
 decision_is a (CloseRecords moment) = λ i. decide_counted (closable (book_is a i).sessions)
 decision_is a (Subscribe context) = λ i.
     decide_subscribe (subscribers_are a context.supi i) (are_known (counters_in (setup_is a i)) context.counters)
-    (Spending (length (contexts_are a i) + 1) (told_is a context i))
+    (Spending (length (watched_are a i).contexts + 1) (told_is a context i))
 decision_is a (Modify id context) = λ i.
-    decide_modify (context_of (contexts_are a i) id) context.supi (are_known (counters_in (setup_is a i)) context.counters)
+    decide_modify (context_of (watched_are a i).contexts id) context.supi (are_known (counters_in (setup_is a i)) context.counters)
     (Spending id (told_is a context i))
-decision_is a (Unsubscribe id) = λ i. decide_unsubscribe (context_of (contexts_are a i) id)
+decision_is a (Unsubscribe id) = λ i. decide_unsubscribe (context_of (watched_are a i).contexts id)
+decision_is a (NoticeSent id number) = λ i. decide_first (is_first (watched_are a i) id number)
 
 pub joined : (a : List Command) → IsLeftBy a (state_of a)
 joined a = record {
@@ -253,7 +256,7 @@ joined a = record {
   moves = moves_are a;
   money = money_is a;
   book = book_is a;
-  contexts = contexts_are a;
+  watched = watched_are a;
   requests = requests_are a;
   places = places_are a;
 }

@@ -27,6 +27,8 @@ mod FirstReplies
 mod Suits
 mod JoinedParts
 mod JoinedMoney
+mod JoinedWatched
+pub mod Stepped
 mod JoinedRequests
 mod Entered
 mod References

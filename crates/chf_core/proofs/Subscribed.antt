@@ -21,6 +21,11 @@ known_is : (b : Bool) (told o : Outcome) → decide_known b told ≡ Fresh o →
 known_is true told o e = refl
 known_is false told o e = absurd (cc)
 
+-- the subscriber of a fresh subscription has a row
+pub subscribe_row : (row : Option Subscription) (b : Bool) (told o : Outcome) → decide_subscribe row b told ≡ Fresh o → is_some row ≡ true
+subscribe_row None b told o e = absurd (cc)
+subscribe_row (Some row) b told o e = refl
+
 -- the counters that a fresh subscription names are known
 pub subscribe_known : (row : Option Subscription) (b : Bool) (told o : Outcome) → decide_subscribe row b told ≡ Fresh o → b ≡ true
 subscribe_known None b told o e = absurd (cc)

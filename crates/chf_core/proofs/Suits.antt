@@ -6,7 +6,7 @@ use Rattle.units.specs.declared.request.Request.{Request}
 use Rattle.accounts.specs.Endings.{count_ending, Until}
 use Rattle.records.specs.Book.{closable}
 use Rattle.chf_core.specs.declared.command.Command.{Command}
-use Rattle.chf_core.specs.declared.command.Command.TheVariants.{Setup, Charge, Subscriber, TopUp, Expire, CloseRecords, Subscribe, Modify, Unsubscribe}
+use Rattle.chf_core.specs.declared.command.Command.TheVariants.{Setup, Charge, Subscriber, TopUp, Expire, CloseRecords, Subscribe, Modify, Unsubscribe, NoticeSent}
 use Rattle.chf_core.specs.declared.command.Outcome.TheVariants.{Charged, Done, Spending, Removed}
 use Rattle.chf_core.specs.declared.refusal.ChfRefusal.TheVariants.{SessionClosed, SequencePassed, TopUpDiffers, WrongSupi}
 use Rattle.chf_core.specs.declared.decision.Verdict.TheVariants.{Known, Refused, Fresh}
@@ -17,16 +17,18 @@ use Rattle.units.specs.declared.spending.SpendContext.{SpendContext}
 use Rattle.units.specs.declared.spending.SpendStatus.{SpendStatus}
 use Rattle.counters.specs.Subscriptions.{context_of}
 use Rattle.counters.specs.Watching.{are_known}
+use Rattle.notices.specs.Watched.{is_first}
 use Rattle.chf_core.specs.declared.refusal.ChfRefusal.{ChfRefusal}
 use Rattle.chf_core.specs.declared.refusal.ChfRefusal.TheVariants as refusal
-use Rattle.chf_core.specs.Spending.{counters_in, contexts, status_for}
+use Rattle.chf_core.specs.Spending.{counters_in, status_for}
+use Rattle.chf_core.specs.Watched.{watched, contexts}
 use Rattle.chf_core.specs.declared.key.Key.{Key}
 use Rattle.chf_core.specs.Operator.{name_eq, setup_of, subscription_of, account_number, topup_of}
 use Rattle.chf_core.specs.Sessions.{named_by}
 use Rattle.chf_core.specs.Keys.{key_of, place_of, command_at, is_repeat}
 use Rattle.chf_core.specs.Money.{money, first_reply}
 use Rattle.chf_core.specs.Filed.{book}
-use Rattle.chf_core.specs.Decisions.{decision, at_key, at_place, at_new, at_new_create, at_new_later, at_kept, last_of, decide_subscriber, decide_again, decide_topup, same_row, decide_known, decide_subscribe, decide_modify, decide_unsubscribe}
+use Rattle.chf_core.specs.Decisions.{decision, at_key, at_place, at_new, at_new_create, at_new_later, at_kept, last_of, decide_subscriber, decide_again, decide_topup, same_row, decide_known, decide_subscribe, decide_modify, decide_unsubscribe, decide_first}
 use Rattle.chf_core.specs.Verdicts.{IsOfRequest, IsOfOperator, IsOfCommand, IsOfSpending, IsOfUnsubscribe, RefusesSubscribe, RefusesModify}
 use Rattle.chf_core.proofs.FirstReplies.{first_replies}
 
@@ -109,3 +111,4 @@ suits commands (Subscribe context) =
 suits commands (Modify id context) =
     modify_suits id (status_for commands context) (context_of (contexts commands) id) context.supi (are_known (counters_in (setup_of commands)) context.counters)
 suits commands (Unsubscribe id) = unsubscribe_suits (context_of (contexts commands) id)
+suits commands (NoticeSent id number) = elim (is_first (watched commands) id number) as (λ b. IsOfOperator (decide_first b)) [ true ↦ refl | false ↦ tt ]

@@ -5,9 +5,8 @@ use Rattle.units.specs.declared.request.Request.{Request}
 use Rattle.sessions.specs.Content.{content}
 use Rattle.accounts.specs.declared.moves.Move.{Move}
 use Rattle.accounts.specs.Making.{made, onto}
-use Rattle.counters.specs.Subscriptions.{subscribed, with_context}
 use Rattle.chf_core.specs.declared.command.Command.{Command}
-use Rattle.chf_core.specs.declared.command.Command.TheVariants.{Setup, Charge, Subscriber, TopUp, Subscribe, Modify, Unsubscribe}
+use Rattle.chf_core.specs.declared.command.Command.TheVariants.{Setup, Charge, Subscriber, TopUp}
 use Rattle.chf_core.specs.declared.command.Outcome.{Outcome}
 use Rattle.chf_core.specs.declared.command.Outcome.TheVariants.{Charged}
 use Rattle.chf_core.specs.declared.decision.Verdict.TheVariants.{Fresh}
@@ -17,6 +16,9 @@ use Rattle.chf_core.specs.Operator.{with_name}
 use Rattle.chf_core.specs.Sessions.{sessions_after}
 use Rattle.chf_core.specs.State.{State, with_text, nothing_yet, account_named, account_for, key_of}
 use Rattle.chf_core.specs.CommandMoves.{moves_of}
+use Rattle.chf_core.specs.Spending.{counters_in}
+use Rattle.chf_core.specs.Stepping.{stepped}
+use Rattle.chf_core.specs.CommandSteps.{step_of}
 use Rattle.chf_core.specs.Filings.{limits_in, filings_of, filed}
 use Rattle.chf_core.specs.Deciding.{decision, first_reply}
 
@@ -34,7 +36,7 @@ abbrev pub entered : State → Request → Option Key → List KeptRequest
 entered s q None = s.requests
 entered s q (Some k) = s.requests ++ entry_of s q k ∷ []
 
--- what a command writes, but for the money, the records and the count
+-- what a command writes, but for the money, the records, the subscriptions and the count
 abbrev pub written : State → Command → State
 written s (Setup setup) = record s { setup = Some setup }
 written s (Charge q) = record s {
@@ -47,16 +49,15 @@ written s (Subscriber supi account barred) = record s {
 }
 written s (TopUp id account amount) =
     record s { topups = with_text s.topups id (record { account = account; amount = amount }) }
-written s (Subscribe context) = record s { contexts = subscribed s.contexts context }
-written s (Modify id context) = record s { contexts = with_context s.contexts id (Some context) }
-written s (Unsubscribe id) = record s { contexts = with_context s.contexts id None }
 written s other = s
 
--- the state after a command: its moves are made, what it files stands in the records, and there is one command more
+-- the state after a command: its moves are made, what it files stands in the records, its step is taken, and there is
+-- one command more
 abbrev pub after : State → Command → State
 after s c = record (written s c) {
   money = made (moves_of s c) s.money;
   book = filed (limits_in s.setup) (filings_of s c) s.book;
+  watched = stepped (counters_in s.setup) s.watched (step_of s c);
   count = s.count + 1;
 }
 

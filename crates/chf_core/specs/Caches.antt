@@ -27,7 +27,7 @@ state_seen c = record {
   sessions = c.sessions.items;
   money = c.accounts.state;
   book = c.book.records;
-  contexts = c.subscriptions.contexts;
+  watched = c.watchers.of;
   requests = c.requests.items;
 }
 
@@ -35,11 +35,18 @@ state_seen c = record {
 abbrev pub places : Inside → ℕ
 places c =
     min (min (min (vec_capacity c.sessions - vec_len c.sessions) (vec_capacity c.requests - vec_len c.requests)) (min (room c.keyed) (4294967295 - c.count)))
-    (min (min c.names.room c.subscriptions.spare) (min c.subscribers.spare c.topups.spare))
+    (min c.names.room (min c.subscribers.spare c.topups.spare))
 
 -- the value of the machine
 abbrev pub machine : Inside → Machine
-machine c = record { state = state_seen c; book = c.book; consumers = c.keyed.consumers.list; places = places c; moves = c.accounts.spare }
+machine c = record {
+  state = state_seen c;
+  book = c.book;
+  watching = c.watchers;
+  consumers = c.keyed.consumers.list;
+  places = places c;
+  moves = c.accounts.spare;
+}
 
 -- what holds of its fields
 pub record IsIndexed (c : Inside) : Type 0 where
@@ -52,7 +59,7 @@ pub record IsIndexed (c : Inside) : Type 0 where
   pub below : AreBelow c.count c.requests.items
   pub owned : IsOwned (state_seen c)
   pub few : length c.sessions.items ≤ c.count
-  pub made : length c.subscriptions.contexts ≤ c.count
+  pub made : length c.watchers.of.contexts ≤ c.count
   pub limited : c.book.limits ≡ limits_in c.setup
   pub numbered : AreNumbered (length c.sessions.items) c.book.records.sessions
 

@@ -14,8 +14,9 @@ use Rattle.accounts.specs.Endings.{count_ending, Until}
 use Rattle.records.specs.Book.{closable}
 use Rattle.counters.specs.Subscriptions.{context_of}
 use Rattle.counters.specs.Watching.{are_known}
+use Rattle.notices.specs.Watched.{is_first}
 use Rattle.chf_core.specs.declared.command.Command.{Command}
-use Rattle.chf_core.specs.declared.command.Command.TheVariants.{Setup, Charge, Subscriber, TopUp, Expire, CloseRecords, Subscribe, Modify, Unsubscribe}
+use Rattle.chf_core.specs.declared.command.Command.TheVariants.{Setup, Charge, Subscriber, TopUp, Expire, CloseRecords, Subscribe, Modify, Unsubscribe, NoticeSent}
 use Rattle.chf_core.specs.declared.command.Outcome.{Outcome}
 use Rattle.chf_core.specs.declared.command.Outcome.TheVariants as outcome
 use Rattle.chf_core.specs.declared.refusal.ChfRefusal.TheVariants.{SessionExists, SessionClosed, SequencePassed, UnknownReference}
@@ -25,7 +26,7 @@ use Rattle.chf_core.specs.declared.session.Session.{Session}
 use Rattle.chf_core.specs.declared.key.Key.{Key}
 use Rattle.chf_core.specs.declared.kept_request.KeptRequest.{KeptRequest}
 use Rattle.chf_core.specs.Money.{failover_in, user_unknown}
-use Rattle.chf_core.specs.Decisions.{last_of, at_kept, same_row, decide_subscriber, decide_topup, decide_counted, decide_subscribe, decide_modify, decide_unsubscribe}
+use Rattle.chf_core.specs.Decisions.{last_of, at_kept, same_row, decide_subscriber, decide_topup, decide_counted, decide_subscribe, decide_modify, decide_unsubscribe, decide_first}
 use Rattle.chf_core.specs.Spending.{counters_in, spent_on, status_by}
 use Rattle.chf_core.specs.State.{State, at_text, account_named, account_of, account_for, named_by, key_of, place_of, kept_at}
 use Rattle.chf_core.specs.CommandMoves.{target_of, rating_of, infos_for}
@@ -72,7 +73,7 @@ status_for s context = status_by (counters_in s.setup) (spent_of s context.supi)
 -- what a command comes to
 abbrev pub outcome_of : State → Command → Outcome
 outcome_of s (Charge q) = outcome.Charged (first_reply s q)
-outcome_of s (Subscribe context) = outcome.Spending (length s.contexts + 1) (status_for s context)
+outcome_of s (Subscribe context) = outcome.Spending (length s.watched.contexts + 1) (status_for s context)
 outcome_of s (Modify id context) = outcome.Spending id (status_for s context)
 outcome_of s (Unsubscribe id) = outcome.Removed
 outcome_of s other = outcome.Done
@@ -128,6 +129,7 @@ decision s (Subscribe context) =
     decide_subscribe (at_text s.subscribers context.supi) (are_known (counters_in s.setup) context.counters)
     (outcome_of s (Subscribe context))
 decision s (Modify id context) =
-    decide_modify (context_of s.contexts id) context.supi (are_known (counters_in s.setup) context.counters)
+    decide_modify (context_of s.watched.contexts id) context.supi (are_known (counters_in s.setup) context.counters)
     (outcome_of s (Modify id context))
-decision s (Unsubscribe id) = decide_unsubscribe (context_of s.contexts id)
+decision s (Unsubscribe id) = decide_unsubscribe (context_of s.watched.contexts id)
+decision s (NoticeSent id number) = decide_first (is_first s.watched id number)

@@ -10,8 +10,9 @@ use Rattle.accounts.specs.Endings.{count_ending, Until}
 use Rattle.records.specs.Book.{closable}
 use Rattle.counters.specs.Subscriptions.{context_of}
 use Rattle.counters.specs.Watching.{are_known}
+use Rattle.notices.specs.Watched.{is_first}
 use Rattle.chf_core.specs.declared.command.Command.{Command}
-use Rattle.chf_core.specs.declared.command.Command.TheVariants.{Setup, Charge, Subscriber, TopUp, Expire, CloseRecords, Subscribe, Modify, Unsubscribe}
+use Rattle.chf_core.specs.declared.command.Command.TheVariants.{Setup, Charge, Subscriber, TopUp, Expire, CloseRecords, Subscribe, Modify, Unsubscribe, NoticeSent}
 use Rattle.chf_core.specs.declared.command.Outcome.{Outcome}
 use Rattle.chf_core.specs.declared.command.Outcome.TheVariants as outcome
 use Rattle.chf_core.specs.declared.refusal.ChfRefusal.TheVariants.{UnknownAccount, SessionExists, SessionClosed, SequencePassed, UnknownReference, TopUpDiffers, WrongSupi, UnknownCounter, UnknownSubscription, UserUnknown}
@@ -26,7 +27,8 @@ use Rattle.chf_core.specs.Sessions.{named_by}
 use Rattle.chf_core.specs.Keys.{key_of, place_of, command_at, is_repeat}
 use Rattle.chf_core.specs.Money.{money, first_reply}
 use Rattle.chf_core.specs.Filed.{book}
-use Rattle.chf_core.specs.Spending.{counters_in, contexts, status_for}
+use Rattle.chf_core.specs.Spending.{counters_in, status_for}
+use Rattle.chf_core.specs.Watched.{watched, contexts}
 
 -- whether a verdict finds a command fresh
 abbrev pub is_fresh : Verdict → Bool
@@ -118,6 +120,11 @@ abbrev pub decide_unsubscribe : Option SpendContext → Verdict
 decide_unsubscribe None = Refused UnknownSubscription
 decide_unsubscribe (Some last) = Fresh outcome.Removed
 
+-- only the first notice of a subscription that was not sent yet can be sent (TS 29.594, 4.2.4; this product's own)
+abbrev pub decide_first : Bool → Verdict
+decide_first true = Fresh outcome.Done
+decide_first false = Known
+
 -- the decision on a command
 abbrev pub decision : List Command → Command → Verdict
 decision commands (Setup setup) = Fresh outcome.Done
@@ -133,3 +140,4 @@ decision commands (Modify id context) =
     decide_modify (context_of (contexts commands) id) context.supi (are_known (counters_in (setup_of commands)) context.counters)
     (outcome.Spending id (status_for commands context))
 decision commands (Unsubscribe id) = decide_unsubscribe (context_of (contexts commands) id)
+decision commands (NoticeSent id number) = decide_first (is_first (watched commands) id number)

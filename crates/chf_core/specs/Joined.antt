@@ -15,7 +15,7 @@ use Rattle.chf_core.specs.Sessions.{sessions, reference_of as reference_in_list}
 use Rattle.chf_core.specs.Keys.{key_of as key_in_list, place_of as place_in_list}
 use Rattle.chf_core.specs.Money.{money, first_reply as first_reply_in_list}
 use Rattle.chf_core.specs.Filed.{book}
-use Rattle.chf_core.specs.Spending.{contexts}
+use Rattle.chf_core.specs.Watched.{watched}
 use Rattle.chf_core.specs.Decisions.{decision as decision_in_list}
 use Rattle.chf_core.specs.State.{State, at_text, reference_of, place_of, kept_at}
 use Rattle.chf_core.specs.Deciding.{decision, first_reply}
@@ -51,7 +51,7 @@ pub record IsLeftBy (commands : List Command) (s : State) : Type 0 where
   pub moves : s.money ≡ money_of (account_moves commands)
   pub money : s.money ≡ money commands
   pub book : s.book ≡ book commands
-  pub contexts : s.contexts ≡ contexts commands
+  pub watched : s.watched ≡ watched commands
   pub requests : (place : ℕ) → kept_at s place ≡ request_at commands place
   pub places : (k : Key) → place_of s k ≡ place_in_list commands k
 

@@ -30,6 +30,9 @@ pub mod Bounds
 pub mod Verdicts
 pub mod State
 pub mod CommandMoves
+pub mod Stepping
+pub mod CommandSteps
+pub mod Watched
 pub mod Deciding
 pub mod After
 pub mod Joined

@@ -5,7 +5,8 @@ use Rattle.chf_core.specs.declared.command.Command.TheVariants.{Charge, Subscrib
 use Rattle.chf_core.specs.declared.command.Outcome.{Outcome}
 use Rattle.chf_core.specs.declared.command.Outcome.TheVariants.{Charged, Done, Spending, Removed}
 use Rattle.chf_core.specs.Money.{first_reply}
-use Rattle.chf_core.specs.Spending.{contexts, status_for}
+use Rattle.chf_core.specs.Spending.{status_for}
+use Rattle.chf_core.specs.Watched.{contexts}
 
 -- what a command comes to, from the commands before it
 abbrev pub outcome_of : List Command → Command → Outcome

@@ -1,14 +1,12 @@
--- Subscriptions to the spending limits of subscribers after a list of commands, the newest first, and what they are told
--- (TS 29.594, 4.2.2).
-use Rattle.std.specs.Prelude.{ℕ, ◌+◌, List, [], ◌∷◌, Option, Some, None}
+-- What was spent on accounts, and what a subscription to the spending limits of a subscriber is told of it after a list of
+-- commands, the newest first (TS 29.594, 4.2.2).
+use Rattle.std.specs.Prelude.{ℕ, ◌+◌, List, [], Option, Some, None}
 use Rattle.units.specs.declared.spending.SpendContext.{SpendContext}
 use Rattle.units.specs.declared.spending.SpendStatus.{SpendStatus}
 use Rattle.accounts.specs.Ledger.{State as Money, numbers}
 use Rattle.counters.specs.Watching.{statuses}
-use Rattle.counters.specs.Subscriptions.{subscribed, with_context}
 use Rattle.chf_core.specs.declared.setup.ChfSetup.{ChfSetup}
 use Rattle.chf_core.specs.declared.command.Command.{Command}
-use Rattle.chf_core.specs.declared.command.Command.TheVariants.{Subscribe, Modify, Unsubscribe}
 use Rattle.chf_core.specs.Operator.{setup_of, account_of}
 use Rattle.chf_core.specs.Money.{money}
 
@@ -25,15 +23,6 @@ spent_on s (Some account) = (numbers s account).taken + (numbers s account).owed
 -- the statuses that watched counters have once that much is spent (TS 29.594, 5.6.2.3)
 abbrev pub status_by : List (List (List ℕ)) → ℕ → SpendContext → SpendStatus
 status_by rows spent context = record { supi = context.supi; infos = statuses rows context.counters spent }
-
--- of each subscription that was ever made, in the order of their numbers from 1, the context that it was last given; none
--- once it ended (TS 29.594, 5.3)
-abbrev pub contexts : List Command → List (Option SpendContext)
-contexts [] = []
-contexts (Subscribe context ∷ before) = subscribed (contexts before) context
-contexts (Modify id context ∷ before) = with_context (contexts before) id (Some context)
-contexts (Unsubscribe id ∷ before) = with_context (contexts before) id None
-contexts (c ∷ before) = contexts before
 
 -- what was spent on the account of a subscriber, by its latest row (this product's own)
 abbrev pub spent_of : List Command → List ℕ → ℕ

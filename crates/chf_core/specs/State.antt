@@ -8,10 +8,10 @@ use Rattle.std.specs.FinMap.{find as find_key, put}
 use Rattle.units.specs.declared.request.Operation.{Operation}
 use Rattle.units.specs.declared.request.Operation.TheVariants.{Create, Update, Release}
 use Rattle.units.specs.declared.request.Request.{Request}
-use Rattle.units.specs.declared.spending.SpendContext.{SpendContext}
 use Rattle.accounts.specs.Ledger.{State as Money}
 use Rattle.records.specs.Book.{Records, no_records}
 use Rattle.accounts.specs.Moves.{empty_state}
+use Rattle.notices.specs.Watched.{Watched, nothing_watched}
 use Rattle.chf_core.specs.declared.setup.ChfSetup.{ChfSetup}
 use Rattle.chf_core.specs.declared.session.Session.{Session}
 use Rattle.chf_core.specs.declared.subscription.Subscription.{Subscription}
@@ -36,8 +36,8 @@ abbrev pub with_text : {X : Type 0} → Texts X → List ℕ → X → Texts X
 with_text values text value = put (slice_cmp nat_cmp) text value values
 
 -- the setup; how many commands there were; the names of the accounts, the newest first; the latest row of each
--- subscriber; the top-ups by id; the sessions by reference; the money; the records; of each subscription to spending
--- limits its context, where it is live; and the kept requests, the oldest first
+-- subscriber; the top-ups by id; the sessions by reference; the money; the records; the subscriptions
+-- to spending limits with their notices; and the kept requests, the oldest first
 pub record State : Type 0 where
   pub setup : Option ChfSetup
   pub count : ℕ
@@ -47,7 +47,7 @@ pub record State : Type 0 where
   pub sessions : List Session
   pub money : Money
   pub book : Records
-  pub contexts : List (Option SpendContext)
+  pub watched : Watched
   pub requests : List KeptRequest
 
 -- before any command
@@ -61,7 +61,7 @@ nothing_yet = record {
   sessions = [];
   money = empty_state;
   book = no_records;
-  contexts = [];
+  watched = nothing_watched;
   requests = [];
 }
 

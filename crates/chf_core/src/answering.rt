@@ -4,9 +4,10 @@ ghost use Rattle.accounts.specs.Endings.{count_ending, Until};
 ghost use Rattle.records.specs.Book.{closable};
 ghost use Rattle.counters.specs.Subscriptions.{context_of};
 ghost use Rattle.counters.specs.Watching.{are_known};
+ghost use Rattle.notices.specs.Watched.{is_first};
 ghost use Rattle.chf_core.specs.declared.command.Outcome.{Outcome};
 ghost use Rattle.chf_core.specs.Keys.{key};
-ghost use Rattle.chf_core.specs.Decisions.{last_of, at_kept, same_row, decide_subscriber, decide_again, decide_topup, decide_counted, decide_known, decide_subscribe, decide_modify, decide_unsubscribe};
+ghost use Rattle.chf_core.specs.Decisions.{last_of, at_kept, same_row, decide_subscriber, decide_again, decide_topup, decide_counted, decide_known, decide_subscribe, decide_modify, decide_unsubscribe, decide_first};
 ghost use Rattle.chf_core.specs.Spending.{counters_in};
 ghost use Rattle.chf_core.specs.State.{at_text, account_named, named_by, key_of, place_of};
 ghost use Rattle.chf_core.specs.Deciding.{decision, at_key, at_place, at_new, at_new_create, at_new_later};
@@ -124,9 +125,9 @@ impl Chf {
 
     fn answer_modify(&self, id: u32, context: &SpendContext) -> Option<Decision>
         requires begun { (self.now.state.count == 0) ≡ false }
-        ensures { (told : Outcome) → result ≡ answer_by (decide_modify (context_of self.now.state.contexts id) context.now.supi (are_known (counters_in self.now.state.setup) context.now.counters) told) }
+        ensures { (told : Outcome) → result ≡ answer_by (decide_modify (context_of self.now.state.watched.contexts id) context.now.supi (are_known (counters_in self.now.state.setup) context.now.counters) told) }
     {
-        match self.subscriptions.context(id) {
+        match self.watchers.context(id) {
             Some(last) => if last.supi == context.supi {
                 self.answer_known(&context.counters)
             } else {
@@ -137,11 +138,21 @@ impl Chf {
     }
 
     fn answer_unsubscribe(&self, id: u32) -> Option<Decision>
-        ensures { result ≡ answer_by (decide_unsubscribe (context_of self.now.state.contexts id)) }
+        ensures { result ≡ answer_by (decide_unsubscribe (context_of self.now.state.watched.contexts id)) }
     {
-        match self.subscriptions.context(id) {
+        match self.watchers.context(id) {
             Some(_) => None,
             None => Some(Decision::Refused(ChfRefusal::UnknownSubscription)),
+        }
+    }
+
+    fn answer_sent(&self, id: u32, number: u32) -> Option<Decision>
+        ensures { result ≡ answer_by (decide_first (is_first self.now.state.watched id number)) }
+    {
+        if self.watchers.is_first(id, number) {
+            None
+        } else {
+            Some(Decision::Known)
         }
     }
 
@@ -227,6 +238,7 @@ impl Chf {
             Command::Subscribe { context } => self.answer_subscribe(context),
             Command::Modify { id, context } => self.answer_modify(*id, context),
             Command::Unsubscribe { id } => self.answer_unsubscribe(*id),
+            Command::NoticeSent { id, number } => self.answer_sent(*id, *number),
         }
     }
 }

@@ -18,7 +18,7 @@ use crate::setup::ChfSetup;
 use crate::subscription::{Subscription, Sum};
 use crate::text_table::TextTable;
 use accounts::Accounts;
-use counters::Subscriptions;
+use notices::Watchers;
 use rating::Tariffs;
 use records::Book;
 use std::alloc::Global;
@@ -38,7 +38,7 @@ pub struct Chf {
     pub(crate) sessions: Vec<Session>,
     pub(crate) accounts: Accounts,
     pub(crate) book: Book,
-    pub(crate) subscriptions: Subscriptions,
+    pub(crate) watchers: Watchers,
     pub(crate) requests: Vec<KeptRequest>,
     pub(crate) keyed: KeyTable,
 }
@@ -85,7 +85,7 @@ impl Chf {
             sessions: Vec::new(alloc),
             accounts: Accounts::new(alloc),
             book: Book::empty(alloc),
-            subscriptions: Subscriptions::new(alloc),
+            watchers: Watchers::new(alloc),
             requests: Vec::new(alloc),
             keyed: KeyTable::new(alloc),
         }
@@ -149,6 +149,9 @@ impl Chf {
                 id, context, outcome, moves, change,
             ),
             Command::Unsubscribe { id } => self.commit_unsubscribe(id, outcome, moves, change),
+            Command::NoticeSent { id, number } => self.commit_sent(
+                id, number, outcome, moves, change,
+            ),
         }
     }
 

@@ -47,6 +47,12 @@ pub enum Command {
     Unsubscribe {
         id: u32,
     },
+    /// The first notice of a subscription that was not sent yet reached whoever made the subscription (TS 29.594,
+    /// 4.2.4).
+    NoticeSent {
+        id: u32,
+        number: u32,
+    },
 }
 
 /// What a command comes to (this product's own).

@@ -1,12 +1,14 @@
 //! Decisions, and the plans of fresh commands.
-ghost use Rattle.std.specs.Prelude.{◌≡◌};
-ghost use Rattle.chf_core.specs.Machine.{filed_containers};
+ghost use Rattle.std.specs.Prelude.{◌≡◌, length};
+ghost use Rattle.chf_core.specs.Machine.{filed_containers, watched_account, watching_more, made_notices};
 
 use crate::command::{Command, Outcome};
 use crate::filing::Opening;
 use crate::refusal::ChfRefusal;
 use crate::session::Session;
+use crate::watching::Moving;
 use accounts::Moves;
+use notices::Notice;
 use records::RecordLimits;
 use std::collections::HashSet;
 use units::{List, UnitUsage};
@@ -19,25 +21,31 @@ pub(crate) enum Change {
         limits: RecordLimits,
     },
     /// The charging id in the request's key, the session that it opens, and the name of its consumer where that is new;
-    /// the names of the records that begin with it, and its containers by rating group.
+    /// the names of the records that begin with it, its containers by rating group, and the notices that it makes.
     Charge {
         charging_id: u32,
         session: Option<Session>,
         consumer: Option<String>,
         names: Option<Opening>,
         used: List<UnitUsage>,
+        notices: Vec<Notice>,
     },
-    /// The name of the account, where that is new, and the set of the barred groups.
+    /// The name of the account, where that is new, the set of the barred groups, and the subscriptions that move.
     Subscriber {
         name: Option<String>,
         groups: HashSet<u32>,
+        moving: Moving,
     },
     TopUp,
     Expire,
     CloseRecords,
-    Subscribe,
+    /// The account that the subscription watches.
+    Subscribe {
+        account: u32,
+    },
     Modify,
     Unsubscribe,
+    NoticeSent,
 }
 
 impl Change {
@@ -48,6 +56,39 @@ impl Change {
         match self {
             Change::Charge { used, .. } => used.as_slice(),
             _ => &[],
+        }
+    }
+
+    /// The account that subscriptions watch from now on.
+    pub(crate) fn watched_account(&self) -> u32
+        ensures { result ≡ watched_account self.now }
+    {
+        match self {
+            Change::Subscriber { moving, .. } => moving.to,
+            Change::Subscribe { account } => *account,
+            _ => 0,
+        }
+    }
+
+    /// How many subscriptions do so.
+    pub(crate) fn watching_more(&self) -> usize
+        ensures { result ≡ watching_more self.now }
+    {
+        match self {
+            Change::Subscriber { moving, .. } => moving.ids.len(),
+            Change::Subscribe { .. } => 1,
+            _ => 0,
+        }
+    }
+
+    /// How many notices the command makes.
+    pub(crate) fn notices(&self) -> usize
+        ensures { result ≡ length (made_notices self.now) }
+    {
+        match self {
+            Change::Charge { notices, .. } => notices.len(),
+            Change::Subscriber { moving, .. } => moving.notices.len(),
+            _ => 0,
         }
     }
 }

@@ -4,9 +4,10 @@ ghost use Rattle.std.specs.FinMap as map;
 ghost use Rattle.accounts.specs.Reservations.{at};
 ghost use Rattle.accounts.specs.declared.moves.Move.TheVariants.{Charged as ChargedMove, Released as ReleasedMove, Reserved as ReservedMove};
 ghost use Rattle.accounts.specs.Ledger.{State as Money};
-ghost use Rattle.accounts.specs.Making.{AreMakeable};
+ghost use Rattle.accounts.specs.Making.{made, AreMakeable};
 ghost use Rattle.chf_core.specs.Admits.{OwnsAll, AreClear};
 ghost use Rattle.chf_core.specs.Effect.{gives_back, rating_by};
+ghost use Rattle.chf_core.specs.Spending.{spent_on};
 ghost use Rattle.chf_core.specs.CommandMoves.{charge_of, charges, release_of, releases, reserve_of, grants, info_for, closing, moves_for, infos_for};
 ghost use Rattle.chf_core.specs.Drafts.{left_in, drafted, Holds};
 
@@ -224,6 +225,7 @@ impl Draft {
     fn close(&mut self, t: Target, operation: Operation) -> Result<(), OutOfMemory>
         ensures moves { OnOk result (self.new.moves ≡ self.old.moves ++ closing operation t) }
         ensures makeable { OnOk result ((s : Money) → AreMakeable self.old.moves s → AreMakeable self.new.moves s) }
+        ensures used { OnOk result (self.new.used ≡ self.old.used) }
     {
         if let Operation::Release(_) = operation {
             self.moves.release_all(t.session)?;
@@ -251,12 +253,14 @@ impl Draft {
     }
 }
 
-/// What a request makes of the accounts, as moves that can be made, and what its reply says of the rating groups
-/// (charging with reservation of units: TS 32.290, 5.2.2).
+/// What a request makes of the accounts, as moves that can be made, what its reply says of the rating groups, and what
+/// was spent on its account before it and after it (charging with reservation of units: TS 32.290, 5.2.2).
 #[derive(Debug, Drop)]
 pub(crate) struct Effect {
     pub(crate) moves: Moves,
     pub(crate) infos: List<UnitInfo>,
+    pub(crate) before: u128,
+    pub(crate) after: u128,
 }
 
 /// The effect of a request that is accepted.
@@ -275,10 +279,13 @@ pub fn effect_of(
     ensures infos { IfOk result (λ e. e.infos
         ≡ infos_for (rating_by tariffs.now grace barred.now) request.now accounts.now.state (Some t)) }
     ensures makeable { IfOk result (λ e. AreMakeable e.moves accounts.now.state) }
+    ensures before { IfOk result (λ e. e.before ≡ spent_on accounts.now.state (Some t.account)) }
+    ensures after { IfOk result (λ e. e.after ≡ spent_on (made e.moves accounts.now.state) (Some t.account)) }
 {
     let Some(mut draft) = Draft::begin(alloc, accounts, t) else {
         return Err(OutOfMemory);
     };
+    let before = draft.used;
     let usage = request.usage.as_slice();
     draft.charge_all(accounts, tariffs, t, usage)?;
     draft.release_all(accounts, t, usage)?;
@@ -296,9 +303,14 @@ pub fn effect_of(
     draft.close(t, request.operation)?;
     let Draft {
         free: _free,
-        used: _used,
+        used,
         lefts: _lefts,
         moves,
     } = draft;
-    Ok(Effect { moves, infos })
+    Ok(Effect {
+        moves,
+        infos,
+        before,
+        after: used,
+    })
 }

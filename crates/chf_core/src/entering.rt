@@ -1,10 +1,11 @@
 //! What each command's commit writes. Nothing here takes memory.
-ghost use Rattle.std.specs.Prelude.{◌≡◌, ◌<◌, ◌≤◌, ◌+◌, ◌-◌, ◌^◌, ◌&&◌, Some, None, Option, ℕ, true, cond, is_some, length, option_map, vec_len, vec_capacity};
+ghost use Rattle.std.specs.Prelude.{◌≡◌, ◌<◌, ◌≤◌, ◌+◌, ◌-◌, ◌^◌, ◌&&◌, Some, None, Option, ℕ, true, cond, is_some, length, option_map, slice_index, vec_len, vec_capacity};
 ghost use Rattle.chf_core.specs.declared.key.Name.{Name as NameSeen};
 ghost use Rattle.chf_core.specs.declared.key.Key.{Key as KeySeen};
 ghost use Rattle.accounts.specs.Making.{made, AreMakeable};
-ghost use Rattle.counters.specs.Subscriptions.{subscribed, with_context, is_live};
+ghost use Rattle.counters.specs.Subscriptions.{is_live};
 ghost use Rattle.counters.specs.Watching.{are_known};
+ghost use Rattle.notices.specs.Watched.{subscribed_on, modified, ended};
 ghost use Rattle.chf_core.specs.Operator.{number_in, with_name};
 ghost use Rattle.chf_core.specs.Sessions.{sessions_after, with_last, write_session, by_reference, name, same_session, id_of};
 ghost use Rattle.chf_core.specs.Keys.{key, key_eq};
@@ -26,8 +27,10 @@ use crate::numbered::{NumberedKey, NumberedName};
 use crate::session::Session;
 use crate::setup::ChfSetup;
 use crate::subscription::{Subscription, Sum};
+use crate::watching::move_subscriptions;
 use accounts::{Accounts, Moves};
-use counters::{Counters, Subscriptions};
+use counters::Counters;
+use notices::Watchers;
 use units::{List, Moment, Operation, Request, SpendContext, Text};
 
 fn set_last(session: &mut Session, last: u32, is_open: bool)
@@ -125,40 +128,41 @@ fn number_name(names: &mut Names, name: &str, new: Option<String>)
     }
 }
 
-// A subscription is made, which names known counters alone.
-fn make_subscription(subscriptions: &mut Subscriptions, counters: &Counters, context: SpendContext)
-    requires spare { 0 < subscriptions.old.spare }
-    requires few { length subscriptions.old.contexts < 2 ^ 32 - 1 }
+// A subscription is made, which names known counters alone and watches an account.
+fn make_subscription(
+    watchers: &mut Watchers,
+    counters: &Counters,
+    context: SpendContext,
+    account: u32,
+)
+    requires spare { 0 < watchers.old.spare }
+    requires room { 0 < slice_index watchers.old.rooms account }
+    requires few { length watchers.old.of.contexts < 2 ^ 32 - 1 }
     requires known { are_known counters.now context.counters ≡ true }
-    ensures { subscriptions.new.contexts ≡ subscribed subscriptions.old.contexts context }
+    ensures { watchers.new.of ≡ subscribed_on watchers.old.of context account }
 {
-    let Ok(_) = subscriptions.subscribe(counters, context) else {
+    let Ok(_) = watchers.subscribe(counters, context, account) else {
         unreachable!();
     };
 }
 
 // A live subscription gets another context, which names known counters alone.
-fn modify_subscription(
-    subscriptions: &mut Subscriptions,
-    id: u32,
-    counters: &Counters,
-    context: SpendContext,
-)
-    requires live { is_live subscriptions.old.contexts id ≡ true }
+fn modify_subscription(watchers: &mut Watchers, id: u32, counters: &Counters, context: SpendContext)
+    requires live { is_live watchers.old.of.contexts id ≡ true }
     requires known { are_known counters.now context.counters ≡ true }
-    ensures { subscriptions.new.contexts ≡ with_context subscriptions.old.contexts id (Some context) }
+    ensures { watchers.new.of ≡ modified watchers.old.of id context }
 {
-    let Ok(_) = subscriptions.modify(id, counters, context) else {
+    let Ok(_) = watchers.modify(id, counters, context) else {
         unreachable!();
     };
 }
 
 // A live subscription ends.
-fn end_subscription(subscriptions: &mut Subscriptions, id: u32)
-    requires live { is_live subscriptions.old.contexts id ≡ true }
-    ensures { subscriptions.new.contexts ≡ with_context subscriptions.old.contexts id None }
+fn end_subscription(watchers: &mut Watchers, id: u32)
+    requires live { is_live watchers.old.of.contexts id ≡ true }
+    ensures { watchers.new.of ≡ ended watchers.old.of id }
 {
-    let Ok(_) = subscriptions.remove(id) else {
+    let Ok(_) = watchers.remove(id) else {
         unreachable!();
     };
 }
@@ -198,11 +202,13 @@ impl Chf {
             consumer,
             names,
             used,
+            notices,
         } = change
         else {
             unreachable!();
         };
         make_moves(&mut self.accounts, &moves);
+        self.watchers.post(notices);
         file(&mut self.book, self.sessions.len(), &request, names, used);
         let reference = reference_for(&self.sessions, &session);
         enter_key(
@@ -236,10 +242,16 @@ impl Chf {
         requires { IsReady self.old (record { command = Command.Subscriber supi account barred; outcome = outcome; moves = moves; change = change }) }
         ensures { self.new.state ≡ after self.old.state (Command.Subscriber supi account barred) }
     {
-        let Change::Subscriber { name, groups } = change else {
+        let Change::Subscriber {
+            name,
+            groups,
+            moving,
+        } = change
+        else {
             unreachable!();
         };
         make_moves(&mut self.accounts, &moves);
+        move_subscriptions(&mut self.watchers, moving);
         number_name(&mut self.names, account.as_str(), name);
         self.subscribers.put(
             supi.into_string(),
@@ -306,10 +318,13 @@ impl Chf {
         requires { IsReady self.old (record { command = Command.Subscribe context; outcome = outcome; moves = moves; change = change }) }
         ensures { self.new.state ≡ after self.old.state (Command.Subscribe context) }
     {
+        let Change::Subscribe { account } = change else {
+            unreachable!();
+        };
         let Some(setup) = &self.setup else {
             unreachable!();
         };
-        make_subscription(&mut self.subscriptions, &setup.counters, context);
+        make_subscription(&mut self.watchers, &setup.counters, context, account);
         self.count += 1;
     }
 
@@ -327,7 +342,7 @@ impl Chf {
         let Some(setup) = &self.setup else {
             unreachable!();
         };
-        modify_subscription(&mut self.subscriptions, id, &setup.counters, context);
+        modify_subscription(&mut self.watchers, id, &setup.counters, context);
         self.count += 1;
     }
 
@@ -341,7 +356,22 @@ impl Chf {
         requires { IsReady self.old (record { command = Command.Unsubscribe id; outcome = outcome; moves = moves; change = change }) }
         ensures { self.new.state ≡ after self.old.state (Command.Unsubscribe id) }
     {
-        end_subscription(&mut self.subscriptions, id);
+        end_subscription(&mut self.watchers, id);
+        self.count += 1;
+    }
+
+    pub(crate) fn commit_sent(
+        &mut self,
+        id: u32,
+        number: u32,
+        outcome: Outcome,
+        moves: Moves,
+        change: Change,
+    )
+        requires { IsReady self.old (record { command = Command.NoticeSent id number; outcome = outcome; moves = moves; change = change }) }
+        ensures { self.new.state ≡ after self.old.state (Command.NoticeSent id number) }
+    {
+        self.watchers.sent(id);
         self.count += 1;
     }
 }

@@ -6,13 +6,14 @@
 //! `decide` to `commit` and needs nothing of what is in it.
 //!
 //! What a state means is told over whole lists of commands, newest first: `Operator` (setup, subscribers, accounts,
-//! top-ups), `Sessions` and `Keys`, `Effect` (charges, give-backs, grants), `Money`, `Decisions`, `Outcomes`. The
+//! top-ups), `Sessions` and `Keys`, `Effect` (charges, give-backs, grants), `Money`, `Watched` (subscriptions to spending
+//! limits and their notices), `Decisions`, `Outcomes`. The
 //! laws of `histories` join each part of the state to the list, those of `laws` and `session_laws` speak of every
 //! list: first replies, the ledger, the money, use within grants, each session.
 //!
 //! How it is built: `chf` has the public calls; `finding` looks up; `answering` is the order of checks; `planning`
 //! makes all the memory that a commit needs, with the moves of money (`draft`, `operator_moves`) and the first
-//! `reply`, each worked out once; `entering` has one commit for each command, and `filing` files a request in the book
+//! `reply`, and with the notices that it makes (`watching`), each worked out once; `entering` has one commit for each command, and `filing` files a request in the book
 //! of records. `text_table` and `found_requests` keep what is seen as lists in an order; what is kept beside the state is
 //! in `specs/Caches`.
 //!
@@ -55,6 +56,7 @@ mod spending;
 mod subscription;
 mod target;
 mod text_table;
+mod watching;
 
 pub use chf::Chf;
 pub use command::{Command, Outcome};
@@ -68,6 +70,7 @@ pub use laws::{
     ledger_is_whole, money_balances, numbers_are_used_once, repeats_get_first_replies,
     replies_stand, sums_are_bounded, use_within_grants_owes_nothing, verdicts_suit_commands,
 };
+pub use notices::Notice;
 pub use problems::{problem, refusal_reply};
 pub use refusal::ChfRefusal;
 pub use session_laws::{

@@ -1,7 +1,7 @@
 //! The plan of a fresh command, which makes all the memory that its commit needs.
 ghost use Rattle.std.specs.Prelude.{◌≡◌, ◌<◌, ◌≤◌, ◌-◌, ◌^◌, ◌==◌, IfOk, IfSome, OnOk, IsSome, is_some, Some, true, false};
-ghost use Rattle.accounts.specs.Making.{AreMakeable};
-ghost use Rattle.chf_core.specs.declared.command.Command.TheVariants.{Setup, Charge, Subscriber, TopUp, Expire, CloseRecords, Subscribe, Modify, Unsubscribe};
+ghost use Rattle.accounts.specs.Making.{made, AreMakeable};
+ghost use Rattle.chf_core.specs.declared.command.Command.TheVariants.{Setup, Charge, Subscriber, TopUp, Expire, CloseRecords, Subscribe, Modify, Unsubscribe, NoticeSent};
 ghost use Rattle.chf_core.specs.Sessions.{supi_of};
 ghost use Rattle.chf_core.specs.Keys.{key};
 ghost use Rattle.records.specs.Groups.{AreApart};
@@ -9,10 +9,12 @@ ghost use Rattle.chf_core.specs.Booked.{CanFile, Opens};
 ghost use Rattle.chf_core.specs.Named.{IsProvided};
 ghost use Rattle.chf_core.specs.Decisions.{is_fresh};
 ghost use Rattle.chf_core.specs.State.{key_of};
+ghost use Rattle.chf_core.specs.Spending.{counters_in, spent_on};
 ghost use Rattle.chf_core.specs.CommandMoves.{target_of, rating_of, moves_of, infos_for};
+ghost use Rattle.chf_core.specs.CommandSteps.{step_of};
 ghost use Rattle.chf_core.specs.Deciding.{decision, outcome_of};
 ghost use Rattle.chf_core.specs.After.{is_setup};
-ghost use Rattle.chf_core.specs.Machine.{Machine, IsReady, IsWorkedOut, Writes, filed_reference, new_session, session_by};
+ghost use Rattle.chf_core.specs.Machine.{Machine, AreMade, CanWatch, IsReady, IsWorkedOut, Writes, filed_containers, filed_reference, new_session, session_by};
 
 use crate::barred::set_of;
 use crate::chf::Chf;
@@ -25,7 +27,10 @@ use crate::names::Names;
 use crate::operator_moves::{adding, expiring, topping};
 use crate::session::Session;
 use crate::setup::ChfSetup;
+use crate::target::Target;
+use crate::watching::make_watching_room;
 use accounts::Moves;
+use notices::Notice;
 use records::by_group;
 use std::alloc::Global;
 use units::{List, Moment, Operation, OutOfMemory, Request, SpendContext, Text, UnitUsage, copy};
@@ -127,14 +132,17 @@ impl Chf {
         alloc: Global,
         setup: &ChfSetup,
         request: &Request,
+        target: Option<Target>,
     ) -> Result<Effect, OutOfMemory>
         requires setup { self.now.state.setup ≡ Some setup.now }
-        requires few { self.now.state.count < 2 ^ 32 - 1 }
+        requires target { target ≡ target_of self.now.state request.now }
         ensures moves { IfOk result (λ e. e.moves ≡ moves_of self.now.state (Charge request.now)) }
         ensures infos { IfOk result (λ e. e.infos ≡ infos_for (rating_of self.now.state request.now) request.now self.now.state.money (target_of self.now.state request.now)) }
         ensures makeable { IfOk result (λ e. AreMakeable e.moves self.now.state.money) }
+        ensures before { IfOk result (λ e. IfSome target (λ t. e.before ≡ spent_on self.now.state.money (Some t.account))) }
+        ensures after { IfOk result (λ e. IfSome target (λ t. e.after ≡ spent_on (made e.moves self.now.state.money) (Some t.account))) }
     {
-        match self.target_of(request) {
+        match target {
             Some(t) => effect_of(
                 alloc,
                 &self.accounts,
@@ -147,6 +155,8 @@ impl Chf {
             None => Ok(Effect {
                 moves: Moves::new(alloc),
                 infos: List::new(alloc),
+                before: 0,
+                after: 0,
             }),
         }
     }
@@ -157,8 +167,10 @@ impl Chf {
         alloc: Global,
         request: &Request,
         charging_id: u32,
+        notices: Vec<Notice>,
     ) -> Result<Change, OutOfMemory>
-        requires { key_of self.now.state request.now ≡ Some (key request.now.consumer charging_id request.now.number) }
+        requires key { key_of self.now.state request.now ≡ Some (key request.now.consumer charging_id request.now.number) }
+        requires notices { AreMade (counters_in self.now.state.setup) self.now.state.watched (step_of self.now.state (Charge request.now)) notices.items }
         ensures { IfOk result (Writes self.now (Charge request.now)) }
     {
         let session = session_opened(alloc, request, self.account_for(&request.subscriber))?;
@@ -169,6 +181,7 @@ impl Chf {
             consumer: name_for(alloc, &self.keyed.consumers, &request.consumer)?,
             names,
             used: by_group(alloc, request.usage.as_slice())?,
+            notices,
         })
     }
 
@@ -185,9 +198,16 @@ impl Chf {
         ensures { IfOk result (IsWorkedOut self.now (Charge request.now)) }
     {
         let setup = self.set_up();
-        let Effect { moves, infos } = self.effect(alloc, setup, request)?;
+        let target = self.target_of(request);
+        let Effect {
+            moves,
+            infos,
+            before,
+            after,
+        } = self.effect(alloc, setup, request, target)?;
         let reply = self.first_reply(alloc, setup, request, infos)?;
-        let change = self.change_of(alloc, request, charging_id)?;
+        let notices = self.notices_by(alloc, setup, target, before, after)?;
+        let change = self.change_of(alloc, request, charging_id, notices)?;
         Ok(Plan {
             command: Command::Charge {
                 request: copy(request)?,
@@ -219,6 +239,7 @@ impl Chf {
         account: &Text,
         barred: &List<u32>,
     ) -> Result<Plan, OutOfMemory>
+        requires begun { (self.now.state.count == 0) ≡ false }
         ensures { IfOk result (IsWorkedOut self.now (Subscriber supi.now account.now barred.now)) }
     {
         let moves = adding(alloc, &self.accounts, self.account_named(account))?;
@@ -233,6 +254,7 @@ impl Chf {
             change: Change::Subscriber {
                 name: name_for(alloc, &self.names, account)?,
                 groups: set_of(alloc, barred.as_slice())?,
+                moving: self.moving_to(alloc, supi, account)?,
             },
         })
     }
@@ -298,7 +320,9 @@ impl Chf {
                 status,
             },
             moves: Moves::new(alloc),
-            change: Change::Subscribe,
+            change: Change::Subscribe {
+                account: self.account_to_watch(context),
+            },
         })
     }
 
@@ -334,6 +358,17 @@ impl Chf {
         })
     }
 
+    fn plan_sent(&self, alloc: Global, id: u32, number: u32) -> Result<Plan, OutOfMemory>
+        ensures { IfOk result (IsWorkedOut self.now (NoticeSent id number)) }
+    {
+        Ok(Plan {
+            command: Command::NoticeSent { id, number },
+            outcome: Outcome::Done,
+            moves: Moves::new(alloc),
+            change: Change::NoticeSent,
+        })
+    }
+
     // ---- of each
 
     // All that comes of a command, worked out.
@@ -361,6 +396,7 @@ impl Chf {
             Command::Subscribe { context } => self.plan_subscribe(alloc, context),
             Command::Modify { id, context } => self.plan_modify(alloc, *id, context),
             Command::Unsubscribe { id } => self.plan_unsubscribe(alloc, *id),
+            Command::NoticeSent { id, number } => self.plan_sent(alloc, *id, *number),
         }
     }
 
@@ -375,37 +411,39 @@ impl Chf {
         }
     }
 
-    // Room for one more command, for that many moves of money, and for what is filed in a session's records. Closed
-    // records and sessions together are fewer than 2^32 - 3, so that all records can be closed.
+    // Room for one more command, for that many moves of money, and for what its change files in a session's records and
+    // makes of subscriptions. Closed records and sessions together are fewer than 2^32 - 3, so that all records can be
+    // closed.
     fn make_room(
         &mut self,
         alloc: Global,
         moves: usize,
         reference: u32,
-        used: &[UnitUsage],
+        change: &Change,
     ) -> Result<(), OutOfMemory>
         requires few { self.old.state.count < 2 ^ 32 - 1 }
-        requires apart { AreApart used.now }
+        requires apart { AreApart (filed_containers change.now) }
         ensures same { self.new.state ≡ self.old.state }
         ensures consumers { self.new.consumers ≡ self.old.consumers }
         ensures places { OnOk result (0 < self.new.places) }
         ensures moves { OnOk result (moves ≤ self.new.moves) }
-        ensures files { OnOk result (CanFile self.new.book reference used.now) }
+        ensures files { OnOk result (CanFile self.new.book reference (filed_containers change.now)) }
+        ensures watches { OnOk result (CanWatch self.new.watching change.now) }
     {
         if self.book.closed().len().saturating_add(self.book.begun()) >= 4_294_967_293 {
             return Err(OutOfMemory);
         }
-        let book = self.book.make_room(reference, used).is_ok();
+        let book = self.book.make_room(reference, change.containers()).is_ok();
         let requests = self.requests.reserve(1).is_ok();
         let sessions = self.sessions.reserve(1).is_ok();
         let names = self.names.make_room().is_ok();
         let subscribers = self.subscribers.make_room().is_ok();
         let topups = self.topups.make_room().is_ok();
         let keyed = self.keyed.make_room().is_ok();
-        let subscriptions = self.subscriptions.make_room(alloc).is_ok();
+        let watchers = make_watching_room(alloc, &mut self.watchers, change).is_ok();
         let accounts = self.accounts.make_room(alloc, moves).is_ok();
         let known = names && subscribers && topups && keyed;
-        if requests && sessions && known && accounts && book && subscriptions {
+        if requests && sessions && known && accounts && book && watchers {
             Ok(())
         } else {
             Err(OutOfMemory)
@@ -422,7 +460,7 @@ impl Chf {
     {
         let plan = self.work_out(alloc, command)?;
         let reference = self.filed_reference(command);
-        self.make_room(alloc, plan.moves.len(), reference, plan.change.containers())?;
+        self.make_room(alloc, plan.moves.len(), reference, &plan.change)?;
         Ok(plan)
     }
 }

@@ -18,9 +18,9 @@ fn sum(taken: Option<u128>, owed: Option<u128>) -> Result<u128, OutOfMemory>
     }
 }
 
-// What was spent on an account.
+/// What was spent on an account, in grains.
 #[tactic(auto, using(crate::proofs::Subscribed::spent_is))]
-fn spent_on(accounts: &Accounts, account: Option<u32>) -> Result<u128, OutOfMemory>
+pub(crate) fn spent_on(accounts: &Accounts, account: Option<u32>) -> Result<u128, OutOfMemory>
     ensures { IfOk result (λ n. n ≡ spent_on accounts.now.state account) }
 {
     match account {
@@ -57,8 +57,8 @@ impl Chf {
     /// The number of the next subscription.
     pub(crate) fn next_subscription(&self) -> u32
         requires { self.now.state.count < 2 ^ 32 - 1 }
-        ensures { result ≡ length self.now.state.contexts + 1 }
+        ensures { result ≡ length self.now.state.watched.contexts + 1 }
     {
-        self.subscriptions.made() + 1
+        self.watchers.made() + 1
     }
 }

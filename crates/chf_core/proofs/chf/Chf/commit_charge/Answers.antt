@@ -7,6 +7,10 @@ use Rattle.chf_core.specs.declared.kept_request.KeptRequest.{KeptRequest}
 use Rattle.chf_core.specs.Sessions.{same_session, name, id_of, sessions_after, opens_by}
 use Rattle.chf_core.specs.Keys.{key, key_eq}
 use Rattle.chf_core.specs.State.{State, account_for, name_of, reference_in, kept_key, place_of}
+use Rattle.notices.specs.Watched.{Watched}
+use Rattle.chf_core.specs.Spending.{counters_in}
+use Rattle.chf_core.specs.CommandMoves.{target_of}
+use Rattle.chf_core.specs.CommandSteps.{money_after}
 use Rattle.chf_core.specs.After.{after as after_command}
 use Rattle.chf_core.specs.Owners.{IsOwned}
 use Rattle.chf_core.specs.Placed.{AreAscending, AreBelow}
@@ -22,6 +26,7 @@ use Rattle.chf_core.proofs.JoinedParts.{reference_after}
 use Rattle.chf_core.proofs.JoinedRequests.{place_push}
 use Rattle.chf_core.proofs.EnteredKeys.{fresh_place, entered_first}
 use Rattle.chf_core.proofs.OwnedState.{owned_after}
+use Rattle.chf_core.proofs.Stepped.{charged_posted, posted_contexts}
 use Rattle.chf_core.proofs.PlacedRequests.{ascending_push, below_push}
 use Rattle.chf_core.proofs.chf.Chf.commit_charge.Goals as goal
 
@@ -41,14 +46,15 @@ invariant_of-self c =
     let account = account_for s q.subscriber in
     let ss = t.sessions.items in
     let rs = t.requests.items in
-    let writes : Writes c.args.self.now (Charge q) (change.Charge id c.in-Charge.session c.in-Charge.consumer c.in-Charge.names c.in-Charge.used) =
+    let writes : Writes c.args.self.now (Charge q) (change.Charge id c.in-Charge.session c.in-Charge.consumer c.in-Charge.names c.in-Charge.used c.in-Charge.notices) =
     subst (Writes c.args.self.now (Charge q)) c.in-Charge.is c.requires.worked_out.change in
     let own = key q.consumer id q.number in
     let entry : KeptRequest = record { place = t.count; charging_id = id; request = content q; outcome = c.args.outcome } in
     let len : c.len.result ≡ length ss = search rules in
-    let opens = writes.1.1.1.opens ∙ ap is_some writes.1.0 ∙ opens_session q.operation q account in
+    let opens = writes.1.1.1.0.opens ∙ ap is_some writes.1.0 ∙ opens_session q.operation q account in
     let records : c.file.new.book.records ≡ filed (limits_in s.setup) (filings_by q.operation (length s.sessions) q (opens_by q.operation account)) s.book = c.file.ensures.records ∙ (λ j. filed t.book.limits (filings_by q.operation (len j) q (is_some c.in-Charge.names)) t.book.records) ∙ (λ j. filed ((i.limited ∙ ap (λ (x : State). limits_in x.setup) seen) j) (filings_by q.operation (length (seen j).sessions) q (opens j)) (seen j).book) in
-    let new_is : state_seen (record t { count = t.count + 1; sessions = c.enter_session.new.sessions; accounts = c.make_moves.new.accounts; book = c.file.new.book; requests = c.push_reserved.new.self; keyed = c.enter_key.new.keyed }) ≡ after_command s (Charge q) = search rules in
+    let step = charged_posted (counters_in s.setup) s.watched s.money (money_after s (Charge q)) (target_of s q) c.in-Charge.notices.items writes.1.1.1.1.made in
+    let new_is : state_seen (record t { count = t.count + 1; sessions = c.enter_session.new.sessions; accounts = c.make_moves.new.accounts; watchers = c.post.new.self; book = c.file.new.book; requests = c.push_reserved.new.self; keyed = c.enter_key.new.keyed }) ≡ after_command s (Charge q) = search rules in
     let after = c.enter_session.ensures account writes.1.0 in
     let reference = c.reference_for-reference.ensures ∙ (λ j. option_map (λ _. length (c.deref.ensures.value j) + 1) (writes.1.0 j)) in
     let none : place_of (state_seen t) own ≡ None = ap (λ (x : State). place_of x own) seen ∙ fresh_place s q own c.args.outcome writes.0 c.requires.fresh in
@@ -71,6 +77,6 @@ invariant_of-self c =
       numbered = subst (λ (l : List Session). AreNumbered (length l) c.file.new.book.records.sessions) (sym after)
           (subst (λ (r : Records). AreNumbered (length (sessions_after q.operation q account ss)) r.sessions) (sym (c.file.ensures.records ∙ (λ j. filed t.book.limits (filings_by q.operation (len j) q (is_some c.in-Charge.names)) t.book.records)))
           (numbered_filed t.book.limits q.operation (length ss) _ q (is_some c.in-Charge.names) t.book.records (sessions_stay q.operation q account ss) (λ e. session_opens q.operation q account ss (sym opens ∙ e)) i.numbered));
-      made = let made = i.made in omega arith;
+      made = let made = i.made in let more = ap (λ (w : Watched). length w.contexts) c.post.ensures.posted in let same = ap length (posted_contexts t.watchers.of c.in-Charge.notices.items) in omega arith;
       few = let one = one_after q.operation q account ss in let same = ap length after in let few = i.few in omega arith;
     }

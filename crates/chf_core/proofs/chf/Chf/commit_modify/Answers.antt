@@ -1,5 +1,6 @@
 use Rattle.std.proofs.Common.{rules, ◌≡◌, ◌==◌, ◌+◌, length, Some, None, sym, ap, ◌∙◌, subst, arith}
 use Rattle.chf_core.specs.declared.command.Command.TheVariants.{Modify}
+use Rattle.notices.specs.Watched.{Watched}
 use Rattle.chf_core.specs.After.{after}
 use Rattle.chf_core.specs.Owners.{IsOwned}
 use Rattle.chf_core.specs.Machine.{Machine}
@@ -14,7 +15,7 @@ invariant_of-self c =
     let t = c.self.inside in
     let i = c.self.invariant in
     let s = c.args.self.now.state in
-    let new_is : state_seen (record t { count = t.count + 1; subscriptions = c.modify_subscription.new.subscriptions }) ≡ after s (Modify c.args.id c.args.context) = search rules in
+    let new_is : state_seen (record t { count = t.count + 1; watchers = c.modify_subscription.new.watchers }) ≡ after s (Modify c.args.id c.args.context) = search rules in
     record {
       set_up = λ e. i.set_up (ap (λ (m : Machine). m.state.count == 0) c.self.view_is ∙ sym c.requires.order);
       unbarred = i.unbarred;
@@ -25,7 +26,7 @@ invariant_of-self c =
       below = below_next t.count t.requests.items i.below;
       owned = subst IsOwned (sym new_is) (owned_after s (Modify c.args.id c.args.context) (subst IsOwned (ap (λ (x : Machine). x.state) c.self.view_is) i.owned));
       few = let few = i.few in omega arith;
-      made = let made = i.made in let more = ap length c.modify_subscription.ensures in let one = length_kept t.subscriptions.contexts c.args.id (Some c.args.context) in omega arith;
+      made = let made = i.made in let more = ap (λ (w : Watched). length w.contexts) c.modify_subscription.ensures in let one = length_kept t.watchers.of.contexts c.args.id (Some c.args.context) in omega arith;
       limited = i.limited;
       numbered = i.numbered;
     }

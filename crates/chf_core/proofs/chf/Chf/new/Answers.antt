@@ -7,6 +7,7 @@ use Rattle.chf_core.specs.Keys.{key_eq}
 use Rattle.chf_core.specs.Placed.{AreAscending, AreBelow}
 use Rattle.chf_core.specs.Owners.{IsOwned}
 use Rattle.chf_core.specs.State.{State, nothing_yet, session_at, kept_key, name_of, reference_in}
+use Rattle.notices.specs.Watched.{Watched}
 use Rattle.chf_core.proofs.Filed.{none_numbered}
 use Rattle.chf_core.proofs.chf.Chf.new.Goals as goal
 
@@ -25,7 +26,7 @@ invariant_of-result c =
       below = subst (AreBelow 0) (sym requests) tt;
       owned = subst (λ (s : State). IsOwned s) (sym (λ i. record nothing_yet { sessions = sessions i; money = c.new-5.ensures i; book = c.empty.ensures.records i })) (λ x. subst (λ o. IfSome o (λ r. option_map (λ (z : Session). z.account) (session_at nothing_yet x.session) ≡ Some r.account)) (sym (map.get-empty key_cmp x)) tt);
       few = let e = ap length sessions in omega arith;
-      made = let e = ap length c.new-6.ensures in omega arith;
+      made = let e = ap (λ (w : Watched). length w.contexts) c.new-6.ensures in omega arith;
       limited = c.empty.ensures.limits;
       numbered = none_numbered _ _ c.empty.ensures.records;
     }
