@@ -26,6 +26,7 @@ fn name_of_command(command: &Command) -> &'static str {
         Command::Subscribe { .. } => "Subscribe",
         Command::Modify { .. } => "Modify",
         Command::Unsubscribe { .. } => "Unsubscribe",
+        Command::NoticeSent { .. } => "NoticeSent",
     }
 }
 

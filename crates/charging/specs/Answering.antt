@@ -1,4 +1,5 @@
--- What a run prints: a line for each operator's row and each message, then the account lines (this product's own).
+-- What a run prints: a line for each operator's row and each message, then the account lines and the notice lines (this
+-- product's own).
 use Rattle.std.specs.Prelude.{ℕ, List, [], ◌∷◌, ◌++◌, Option, Some, None, Result, Ok, Err, codes, option_map}
 use Rattle.std.specs.Option.{option_and_then}
 use Rattle.std.specs.Fmt.{decimal}
@@ -28,6 +29,7 @@ use Rattle.charging.specs.declared.item.Item.{Item}
 use Rattle.charging.specs.declared.item.Item.TheVariants.{Row, Message}
 use Rattle.charging.specs.Routing.{command_at}
 use Rattle.charging.specs.AccountLines.{account_lines}
+use Rattle.charging.specs.NoticeLines.{notice_lines}
 
 -- the state after a decision on a command: what is fresh is entered
 abbrev pub decided : State → Command → Verdict → State
@@ -171,5 +173,5 @@ after_item s other = s
 
 -- all that is printed from a state on
 abbrev pub printed : State → List Item → List ℕ
-printed s [] = account_lines s
+printed s [] = account_lines s ++ notice_lines s
 printed s (item ∷ items) = line_of s item ++ printed (after_item s item) items

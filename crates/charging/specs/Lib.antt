@@ -6,6 +6,7 @@ pub mod MeterLines
 pub mod Items
 pub mod Accepted
 pub mod AccountLines
+pub mod NoticeLines
 pub mod Routing
 pub mod Ascending
 pub mod Answering

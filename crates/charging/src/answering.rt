@@ -8,6 +8,8 @@ ghost use Rattle.chf_core.specs.After.{after, is_setup};
 ghost use Rattle.chf_core.specs.Standing.{reply_of};
 ghost use Rattle.chf_core.specs.declared.command.Command.TheVariants.{Setup};
 ghost use Rattle.units.specs.declared.reply.Reply.TheVariants as reply;
+ghost use Rattle.charging.specs.AccountLines.{account_lines};
+ghost use Rattle.charging.specs.NoticeLines.{notice_lines};
 ghost use Rattle.charging.specs.Answering.{after_command, after_item, after_message, command_line, decided, line_of, message_line, message_response, outcome_response, printed, refusal_number, refused_reply, response_of, verdict_line, verdict_response};
 ghost use Rattle.charging.specs.Routing.{command_at};
 ghost use Rattle.charging.specs.Ascending.{AscendsIn};
@@ -16,6 +18,7 @@ ghost use Rattle.chf_rows.specs.OperatorRow.{command_of};
 use crate::account_lines::push_accounts;
 use crate::item::{Item, Method};
 use crate::items::Items;
+use crate::notice_lines::push_notices;
 use crate::responses::{push_given, push_made, push_number, push_removed, push_reply};
 use crate::routing::command_at;
 use chf_core::{Chf, ChfRefusal, ChfSetup, Command, Decision, Outcome, problem, refusal_reply};
@@ -259,7 +262,15 @@ pub fn printed<I: Items>(alloc: Global, setup: ChfSetup, items: &I) -> Result<Ve
     Ok(out)
 }
 
-// Answers the items that are left, then prints the accounts.
+// Prints the accounts, then the notices that were not sent.
+fn push_end(alloc: Global, chf: &Chf, out: &mut Vec<u8>) -> Result<(), OutOfMemory>
+    ensures { OnOk result (out.new.items ≡ out.old.items ++ (account_lines chf.now.state ++ notice_lines chf.now.state)) }
+{
+    push_accounts(alloc, chf, out)?;
+    push_notices(alloc, chf, out)
+}
+
+// Answers the items that are left, then prints the accounts and the notices.
 fn push_items<I: Items>(
     alloc: Global,
     chf: &mut Chf,
@@ -272,7 +283,7 @@ fn push_items<I: Items>(
 {
     loop {
         match items.take(alloc)? {
-            None => return push_accounts(alloc, chf, out),
+            None => return push_end(alloc, chf, out),
             Some(item) => push_item(alloc, chf, &item, out)?,
         }
     }

@@ -5,8 +5,8 @@
 //! How it is built: `top` is the same for all commands; `words` and `parsing` read the words; `items` is what gives
 //! the items of an input one after the other, `row_items` and `line_items` are its two forms (`item`, `csv_rows`,
 //! `plain_rows`); `accepted` goes through them once for the setup and once for the first item that is not accepted;
-//! `answering` gives each item to the machine, `routing` says what a message asks, `responses` and `account_lines`
-//! print; `meter_rows` and `lines` are the command `meter`.
+//! `answering` gives each item to the machine, `routing` says what a message asks, `responses`, `account_lines` and
+//! `notice_lines` print; `meter_rows` and `lines` are the command `meter`.
 //!
 //! Where a rule goes: a command is one more variant of `Task`, and a case each in `task_of`, `Prints`, `Accepts`,
 //! `Refuses` and `output_of_bytes`; a kind of message goes into `Routing` and `routing`.
@@ -23,6 +23,7 @@ mod line_items;
 mod lines;
 mod meter_rows;
 mod name_order;
+mod notice_lines;
 mod parsing;
 mod plain_rows;
 mod responses;

@@ -15,9 +15,9 @@ use Rattle.charging_json.specs.Request.{request_in}
 use Rattle.charging_json.specs.RequestWritten.{request_data}
 use Rattle.spend_json.specs.Context.{context_in}
 use Rattle.spend_json.specs.ContextWritten.{context_data}
-use Rattle.chf_core.specs.declared.command.Command.TheVariants.{Charge, Subscribe, Modify, Unsubscribe}
+use Rattle.chf_core.specs.declared.command.Command.TheVariants.{Charge, Subscribe, Modify, Unsubscribe, NoticeSent}
 use Rattle.chf_payloads.specs.Written.{operation_text}
-use Rattle.chf_payloads.specs.Read.{charge_in, charged, context_of, modify_in, request_of, session_request}
+use Rattle.chf_payloads.specs.Read.{charge_in, charged, context_of, modify_in, request_of, sent_in, session_request}
 use Rattle.chf_payloads.specs.Payloads.{ReadsBack}
 use Rattle.chf_payloads.specs.Laws.{FitsOperation}
 
@@ -51,6 +51,15 @@ modify_back numbers id x fits back =
 
 pub remove_back : NumbersReadBack → (id : ℕ) → Is32 id → ReadsBack (Unsubscribe id)
 remove_back numbers id fits = ap (option_map (λ n. Unsubscribe n)) (numbers.field (2 ^ 32 - 1) id (omega (arith, fits)) (omega (arith, fits)))
+
+pub sent_back : NumbersReadBack → (id number : ℕ) → Is32 id → Is32 number → ReadsBack (NoticeSent id number)
+sent_back numbers id number fits small =
+    let body = decimal number in
+    let text = (decimal id ++ codes " ") ++ body in
+    ap sent_in (sym (append_assoc (decimal id) (codes " ") body))
+    ∙ ap (option_and_then (λ n. option_map (λ m. NoticeSent n m) (number_of (2 ^ 32 - 1) (after_space text)))) (numbers.before_space (2 ^ 32 - 1) id body (omega (arith, fits)) (omega (arith, fits)))
+    ∙ ap (λ t. option_map (λ m. NoticeSent id m) (number_of (2 ^ 32 - 1) t)) (numbers.after_space id body (omega (arith, fits)))
+    ∙ ap (option_map (λ m. NoticeSent id m)) (numbers.field (2 ^ 32 - 1) number (omega (arith, small)) (omega (arith, small)))
 
 -- what holds anyway holds where a call went well
 pub always : {T E P : Type 0} (r : Result T E) → P → OnOk r P

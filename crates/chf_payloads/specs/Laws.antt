@@ -8,7 +8,7 @@ use Rattle.chf_rows.specs.Setup.{setup_answer}
 use Rattle.chf_rows.specs.OperatorRow.{command_of}
 use Rattle.chf_core.specs.declared.setup.ChfSetup.{ChfSetup}
 use Rattle.chf_core.specs.declared.command.Command.{Command}
-use Rattle.chf_core.specs.declared.command.Command.TheVariants.{Setup, Charge, Subscribe, Modify, Unsubscribe}
+use Rattle.chf_core.specs.declared.command.Command.TheVariants.{Setup, Charge, Subscribe, Modify, Unsubscribe, NoticeSent}
 use Rattle.chf_payloads.specs.Written.{payload_of}
 use Rattle.chf_payloads.specs.Payloads.{ReadsBack}
 
@@ -18,12 +18,13 @@ FitsOperation Create = ⊤
 FitsOperation (Update reference) = Is32 reference
 FitsOperation (Release reference) = Is32 reference
 
--- a command of a message, in the ranges of the message's format
+-- a command of a message, in the ranges of the message's format, or of the answer to a notice
 abbrev pub IsOfMessage : Command → Type 0
 IsOfMessage (Charge request) = FitsRequest request × FitsOperation request.operation
 IsOfMessage (Subscribe context) = FitsContext context
 IsOfMessage (Modify id context) = Is32 id × FitsContext context
 IsOfMessage (Unsubscribe id) = Is32 id
+IsOfMessage (NoticeSent id number) = Is32 id × Is32 number
 IsOfMessage other = ⊥
 
 -- what rows give reads back, and its payload is small: the setup of setup rows, and the command of an operator's row

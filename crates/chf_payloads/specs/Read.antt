@@ -16,7 +16,7 @@ use Rattle.chf_rows.specs.OperatorRow.{command_of}
 use Rattle.chf_rows.specs.declared.refusal.SetupRefusal.{SetupRefusal}
 use Rattle.chf_core.specs.declared.setup.ChfSetup.{ChfSetup}
 use Rattle.chf_core.specs.declared.command.Command.{Command}
-use Rattle.chf_core.specs.declared.command.Command.TheVariants.{Setup, Charge, Subscribe, Modify, Unsubscribe}
+use Rattle.chf_core.specs.declared.command.Command.TheVariants.{Setup, Charge, Subscribe, Modify, Unsubscribe, NoticeSent}
 
 -- a reference or an id, before a space
 abbrev pub small_before : List ℕ → Option ℕ
@@ -110,15 +110,25 @@ subscribe_or None other = other
 abbrev pub spending_in : List ℕ → Option Command
 spending_in text = subscribe_or (after_word text (codes "subscribe ")) (modify_or (after_word text (codes "modify ")) (ending_in text))
 
+-- ---- notices
+
+-- a notice that was sent: the number of its subscription, and its own
+abbrev pub sent_in : List ℕ → Option Command
+sent_in text =
+    option_and_then
+    (λ id. option_map (λ number. NoticeSent id number) (number_of (2 ^ 32 - 1) (after_space text)))
+    (small_before text)
+
 -- ---- payloads
 
--- the command of a kind, by its letter: `c`, `r`, `q` or `s`
+-- the command of a kind, by its letter: `c`, `r`, `q`, `s` or `n`
 abbrev pub command_by : ℕ → List ℕ → Option Command
 command_by kind text =
     if kind == 99 then setup_in text else
     (if kind == 114 then operator_in text else
     (if kind == 113 then charge_in text else
-    (if kind == 115 then spending_in text else None)))
+    (if kind == 115 then spending_in text else
+    (if kind == 110 then sent_in text else None))))
 
 -- the command that a payload gives, however it is spelled
 abbrev pub command_in : List ℕ → Option Command

@@ -9,7 +9,7 @@ use Rattle.charging_json.specs.RequestWritten.{container_count, request_data}
 use Rattle.spend_json.specs.ContextWritten.{context_data}
 use Rattle.chf_core.specs.declared.setup.ChfSetup.{ChfSetup}
 use Rattle.chf_core.specs.declared.command.Command.{Command}
-use Rattle.chf_core.specs.declared.command.Command.TheVariants.{Setup, Charge, Subscriber, TopUp, Expire, CloseRecords, Subscribe, Modify, Unsubscribe}
+use Rattle.chf_core.specs.declared.command.Command.TheVariants.{Setup, Charge, Subscriber, TopUp, Expire, CloseRecords, Subscribe, Modify, Unsubscribe, NoticeSent}
 
 -- the limits row of a setup
 abbrev pub limits_row : ChfSetup → List (List ℕ)
@@ -37,13 +37,15 @@ operator_row other = []
 
 -- the payload of a command. Its first byte is its kind: `c` the rows of the setup, `r` an operator's row, `q` a request
 -- (TS 32.291, 6.1.6.2.1.1) behind its operation, with the mark of a repeat as it stands, `s` a change of subscriptions
--- to spending limits (TS 29.594, 4.2)
+-- to spending limits (TS 29.594, 4.2), `n` the numbers of a subscription and of its notice that was sent (TS 29.594,
+-- 4.2.4)
 abbrev pub payload_of : Command → List ℕ
 payload_of (Setup setup) = codes "c" ++ rows_text (setup_rows setup)
 payload_of (Charge request) = codes "q" ++ (operation_text request.operation ++ compact_text (request_data request))
 payload_of (Subscribe context) = codes "ssubscribe " ++ compact_text (context_data context)
 payload_of (Modify id context) = codes "smodify " ++ (decimal id ++ (codes " " ++ compact_text (context_data context)))
 payload_of (Unsubscribe id) = codes "sremove " ++ decimal id
+payload_of (NoticeSent id number) = codes "n" ++ (decimal id ++ (codes " " ++ decimal number))
 payload_of other = codes "r" ++ row_text (operator_row other)
 
 -- how many containers a command has

@@ -1,6 +1,6 @@
 //! The commands that payloads give, however they are spelled.
 ghost use Rattle.std.specs.Prelude.{◌≡◌, IfOk};
-ghost use Rattle.chf_payloads.specs.Read.{charge_in, command_by, command_in, context_of, ending_in, modify_in, operator_in, release_in, remove_in, request_of, session_request, setup_by, setup_in, small_before, spending_in, subscribe_in};
+ghost use Rattle.chf_payloads.specs.Read.{charge_in, command_by, command_in, context_of, ending_in, modify_in, operator_in, release_in, remove_in, request_of, sent_in, session_request, setup_by, setup_in, small_before, spending_in, subscribe_in};
 
 use charging_json::read_request;
 use chf_core::Command;
@@ -164,6 +164,15 @@ fn spending_in(alloc: Global, text: &[u8]) -> Result<Option<Command>, OutOfMemor
     Ok(ending_in(text))
 }
 
+// A notice that was sent.
+fn sent_in(text: &[u8]) -> Option<Command>
+    ensures { result ≡ sent_in text.now }
+{
+    let id = small_before(text)?;
+    let sent = number(u64::from(u32::MAX), after_space(text))? as u32;
+    Some(Command::NoticeSent { id, number: sent })
+}
+
 // The command of a kind.
 fn command_by(alloc: Global, kind: u8, text: &[u8]) -> Result<Option<Command>, OutOfMemory>
     ensures { IfOk result (λ o. o ≡ command_by kind text.now) }
@@ -173,6 +182,7 @@ fn command_by(alloc: Global, kind: u8, text: &[u8]) -> Result<Option<Command>, O
         b'r' => operator_in(alloc, text),
         b'q' => charge_in(alloc, text),
         b's' => spending_in(alloc, text),
+        b'n' => Ok(sent_in(text)),
         _ => Ok(None),
     }
 }

@@ -186,6 +186,15 @@ fn push_remove(id: u32, out: &mut Vec<u8>) -> Result<(), OutOfMemory>
     push_decimal(id, out)
 }
 
+fn push_sent(id: u32, number: u32, out: &mut Vec<u8>) -> Result<(), OutOfMemory>
+    ensures text { OnOk result (out.new.items ≡ out.old.items ++ payload_of (Command.NoticeSent id number)) }
+    ensures reads_back { IsOfMessage (Command.NoticeSent id number) → OnOk result (ReadsBack (Command.NoticeSent id number)) }
+{
+    numbers_read_back();
+    push_numbered(b"n", id, out)?;
+    push_decimal(number, out)
+}
+
 fn push_payload(alloc: Global, command: &Command, out: &mut Vec<u8>) -> Result<(), OutOfMemory>
     ensures text { OnOk result (out.new.items ≡ out.old.items ++ payload_of command.now) }
     ensures bytes { OnOk result (containers_of command.now < length (payload_of command.now)) }
@@ -209,6 +218,7 @@ fn push_payload(alloc: Global, command: &Command, out: &mut Vec<u8>) -> Result<(
         Command::Subscribe { context } => push_subscribe(alloc, context, out),
         Command::Modify { id, context } => push_modify(alloc, *id, context, out),
         Command::Unsubscribe { id } => push_remove(*id, out),
+        Command::NoticeSent { id, number } => push_sent(*id, *number, out),
     }
 }
 
