@@ -5,7 +5,7 @@ use Rattle.journal.specs.Refusals.{RefusesStart}
 use Rattle.journal.specs.State.{State as Journal}
 use Rattle.journal.specs.declared.refusal.JournalRefusal.{JournalRefusal}
 use Rattle.journal.specs.declared.refusal.JournalRefusal.TheVariants as journal
-use Rattle.durable.specs.Refusals.{RefusesAgain, RefusesEntry}
+use Rattle.durable.specs.Refusals.{RefusesAgain, RefusesEntry, RefusesOwning}
 use Rattle.durable.specs.State.{State as Durable}
 use Rattle.chf_core.specs.declared.command.Command.{Command}
 use Rattle.chf_core.specs.declared.command.Outcome.{Outcome}
@@ -54,6 +54,18 @@ RefusesSettling content epoch before now old (BadEntry place) = HasBadEntry cont
 RefusesSettling content epoch before now old Closed = ⊥
 RefusesSettling content epoch before now old (TooLong count) = ⊥
 RefusesSettling content epoch before now old OutOfMemory = ⊤
+
+-- The refusals of a look at the disk's epoch.
+abbrev pub RefusesShowing : (epoch : Option ℕ) (before now : ℕ) (old new : Durable) → StoreRefusal → Type 0
+RefusesShowing epoch before now old new Fault = RefusesOwning epoch before now old new journal.Fault
+RefusesShowing epoch before now old new (Fenced seen) = RefusesOwning epoch before now old new (journal.Fenced seen)
+RefusesShowing epoch before now old new (Full len need) = ⊥
+RefusesShowing epoch before now old new (NotAJournal at) = ⊥
+RefusesShowing epoch before now old new EpochsSpent = ⊥
+RefusesShowing epoch before now old new (BadEntry place) = ⊥
+RefusesShowing epoch before now old new Closed = ⊥
+RefusesShowing epoch before now old new (TooLong count) = ⊥
+RefusesShowing epoch before now old new OutOfMemory = ⊥
 
 -- The refusals of an entry: a journal that is not open, more than 2^24 bytes, or those of the journal; want of memory is none. The first two, and want of room, change nothing.
 abbrev pub RefusesKeeping : {D : Type 0} → (epoch : Option ℕ) (before now : ℕ) (old new : Durable) (disk disk_now : D) (payload : List ℕ) → StoreRefusal → Type 0

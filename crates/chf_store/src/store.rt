@@ -16,7 +16,7 @@ ghost use Rattle.chf_core.specs.Machine.{MayWantMemory};
 ghost use Rattle.chf_payloads.specs.Written.{payload_of};
 ghost use Rattle.chf_replay.specs.Entries.{IsAfter, IsBadAt, payloads_of};
 ghost use Rattle.chf_store.specs.Entering.{Answers, commands_after, Decides, IsReadable, MayAddFresh, MayBeKept};
-ghost use Rattle.chf_store.specs.Refusals.{RefusesEntering, RefusesKeeping, RefusesOpening, RefusesSettling, RefusesTaking};
+ghost use Rattle.chf_store.specs.Refusals.{RefusesEntering, RefusesKeeping, RefusesOpening, RefusesSettling, RefusesShowing, RefusesTaking};
 ghost use Rattle.chf_store.specs.Stored.{IsStored};
 
 use crate::adding::add;
@@ -176,6 +176,28 @@ impl ChfStore {
         match self.list.settle(alloc, disk) {
             Ok(Some(entries)) => self.take(alloc, entries.as_slice()),
             Ok(None) => Ok(()),
+            Err(refusal) => Err(handed_on(refusal)),
+        }
+    }
+
+    /// Asks the disk whether the own epoch is still its greatest one: what rests on something missing is answered only
+    /// then. Under a greater epoch the journal is closed; the machine is as before.
+    pub fn show_own<D: Disk>(&mut self, disk: &mut D) -> Result<(), StoreRefusal>
+        requires stored { (commands : Listed Commanded) × IsStored self.old (D.content disk.old) (D.told_epoch disk.old) (D.is_image disk.old) commands }
+        ensures grows { Grows (D.told_epoch disk.old) (D.is_image disk.old) (D.told_epoch disk.new) (D.is_image disk.new) AddsNothing }
+        ensures kept { (commands : Listed Commanded) → IsStored self.old (D.content disk.old) (D.told_epoch disk.old) (D.is_image disk.old) commands → IsStored self.new (D.content disk.new) (D.told_epoch disk.new) (D.is_image disk.new) commands }
+        ensures machine { self.new.machine ≡ self.old.machine }
+        ensures own { OnOk result ((self.new ≡ self.old) × ((e : ℕ) → D.told_epoch disk.old ≡ Some e → e ≡ self.old.durable.own)) }
+        ensures refused { IfErr result (RefusesShowing (D.told_epoch disk.old) (D.faults disk.old) (D.faults disk.new) self.old.durable self.new.durable) }
+        ensures fenced { (e : ℕ) → D.told_epoch disk.old ≡ Some e → self.old.durable.own < e → IsErr result }
+        ensures epoch { D.told_epoch disk.new ≡ D.told_epoch disk.old }
+        ensures tells { is_some (D.content disk.new) ≡ is_some (D.content disk.old) }
+        ensures count { D.faults disk.old ≤ D.faults disk.new }
+        ensures openings { D.failed_openings disk.new ≡ D.failed_openings disk.old }
+        ensures room { KeepsRoom (D.faults disk.old) (D.faults disk.new) (D.room disk.old) (D.room disk.new) (λ r. ⊤) 0 }
+    {
+        match self.list.show_own(disk) {
+            Ok(()) => Ok(()),
             Err(refusal) => Err(handed_on(refusal)),
         }
     }
