@@ -24,6 +24,7 @@ use crate::routing::command_at;
 use chf_core::{Chf, ChfRefusal, ChfSetup, Command, Decision, Outcome, problem, refusal_reply};
 use chf_rows::read_operator_row;
 use counters::statuses_ascend;
+use routes::Routes;
 use std::alloc::{AllocError, Global};
 use units::{Cause, OutOfMemory, Problem, Reply, Text, name_of_cause};
 
@@ -185,6 +186,7 @@ fn push_called(
 
 fn push_message(
     alloc: Global,
+    routes: &Routes,
     chf: &mut Chf,
     method: Method,
     path: &Text,
@@ -195,7 +197,7 @@ fn push_message(
     ensures line { OnOk result (out.new.items ≡ out.old.items ++ message_line (message_response chf.old.state (command_at method path.now body.now))) }
     ensures state { OnOk result (chf.new.state ≡ after_message chf.old.state (command_at method path.now body.now)) }
 {
-    match command_at(alloc, method, path, body)? {
+    match command_at(alloc, routes, method, path, body)? {
         Ok(command) => push_called(alloc, chf, &command, out),
         Err(reply) => push_reply(alloc, &reply, out),
     }
@@ -220,6 +222,7 @@ fn push_row(
 // Answers an item.
 fn push_item(
     alloc: Global,
+    routes: &Routes,
     chf: &mut Chf,
     item: &Item,
     out: &mut Vec<u8>,
@@ -232,7 +235,7 @@ fn push_item(
         Item::Blank => Ok(()),
         Item::Row { fields } => push_row(alloc, chf, fields.as_slice(), out),
         Item::Message { method, path, body } => {
-            push_message(alloc, chf, *method, path, body.as_slice(), out)
+            push_message(alloc, routes, chf, *method, path, body.as_slice(), out)
         }
         Item::Bad => Ok(()),
     }
@@ -257,8 +260,9 @@ pub fn printed<I: Items>(alloc: Global, setup: ChfSetup, items: &I) -> Result<Ve
     ensures { IfOk result (λ out. out.items ≡ printed (after nothing_yet (Setup setup)) (I.all items.now)) }
 {
     let mut out = Vec::new(alloc);
+    let routes = Routes::new(alloc)?;
     let mut chf = set_up(alloc, setup)?;
-    push_items(alloc, &mut chf, &mut items.again(alloc), &mut out)?;
+    push_items(alloc, &routes, &mut chf, &mut items.again(alloc), &mut out)?;
     Ok(out)
 }
 
@@ -273,6 +277,7 @@ fn push_end(alloc: Global, chf: &Chf, out: &mut Vec<u8>) -> Result<(), OutOfMemo
 // Answers the items that are left, then prints the accounts and the notices.
 fn push_items<I: Items>(
     alloc: Global,
+    routes: &Routes,
     chf: &mut Chf,
     items: &mut I,
     out: &mut Vec<u8>,
@@ -284,7 +289,7 @@ fn push_items<I: Items>(
     loop {
         match items.take(alloc)? {
             None => return push_end(alloc, chf, out),
-            Some(item) => push_item(alloc, chf, &item, out)?,
+            Some(item) => push_item(alloc, routes, chf, &item, out)?,
         }
     }
 }

@@ -8,7 +8,7 @@ ghost use Rattle.charging.specs.Routing.{body_problem, charge_in, command_at, co
 use crate::item::Method;
 use charging_json::read_request;
 use chf_core::{Command, problem};
-use routes::{Call, NoCall, call_of, status_of};
+use routes::{Call, NoCall, Routes, status_of};
 use spend_json::read_context;
 use std::alloc::{AllocError, Global};
 use units::{
@@ -109,6 +109,7 @@ fn command_in(alloc: Global, call: Call, body: &[u8]) -> Result<Result<Command, 
 /// The command that a message gives, or the reply that refuses it.
 pub fn command_at(
     alloc: Global,
+    routes: &Routes,
     method: Method,
     path: &Text,
     body: &[u8],
@@ -116,7 +117,7 @@ pub fn command_at(
     ensures command { IfOk result (λ r. r ≡ command_at method path.now body.now) }
     ensures later { IfOk result (λ r. IfOk r (λ c. is_setup c ≡ false)) }
 {
-    match call_of(method_text(method), path.as_str().as_bytes()) {
+    match routes.call_of(method_text(method), path.as_str()) {
         Ok(call) => command_in(alloc, call, body),
         Err(refusal) => Ok(Err(no_call(alloc, refusal)?)),
     }

@@ -1,0 +1,4 @@
+mod Levels
+mod Literal
+mod Names
+mod Places

@@ -1,2 +1,3 @@
 pub mod Paths
 pub mod Calls
+pub mod Table

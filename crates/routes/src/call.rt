@@ -1,8 +1,8 @@
 //! The call that a method and a path are.
 ghost use Rattle.std.specs.Prelude.{◌≡◌};
-ghost use Rattle.routes.specs.Calls.{by_one, call_at, call_of, status_of};
+ghost use Rattle.routes.specs.Calls.{by_one, call_at, status_of};
 
-use crate::place::{Place, place_at};
+use crate::place::Place;
 use units::Operation;
 
 /// A call to a charging function.
@@ -34,7 +34,8 @@ fn by_one(method: &[u8], own: &[u8], call: Call) -> Option<Call>
     if method == own { Some(call) } else { None }
 }
 
-fn call_at(method: &[u8], place: Place) -> Option<Call>
+/// The call of a method at a place.
+pub fn call_at(method: &[u8], place: Place) -> Option<Call>
     ensures { result ≡ call_at method.now place }
 {
     match place {
@@ -55,24 +56,6 @@ fn call_at(method: &[u8], place: Place) -> Option<Call>
         } else {
             by_one(method, b"DELETE", Call::Unsubscribe(id))
         },
-    }
-}
-
-/// The call that a method and a path are; the path is looked at first.
-///
-/// # Errors
-///
-/// [`NoCall::NoPath`] exactly where the path names nothing, then [`NoCall::NoMethod`] exactly where what it names does not take
-/// the method.
-pub fn call_of(method: &[u8], path: &[u8]) -> Result<Call, NoCall>
-    ensures { result ≡ call_of method.now path.now }
-{
-    match place_at(path) {
-        Some(place) => match call_at(method, place) {
-            Some(call) => Ok(call),
-            None => Err(NoCall::NoMethod),
-        },
-        None => Err(NoCall::NoPath),
     }
 }
 

@@ -1,6 +1,7 @@
 //! The place that a path names.
-ghost use Rattle.std.specs.Prelude.{◌≡◌, option_map};
-ghost use Rattle.routes.specs.Paths.{below_sessions, below_subscriptions, deed, in_session, in_subscription, number_in, place_at, place_in};
+ghost use Rattle.std.specs.Prelude.{◌≡◌};
+ghost use Rattle.routes.specs.Paths.{number_in, sessions, subscriptions};
+ghost use Rattle.routes.specs.Table.{name_after, place_by};
 
 use rows::{number, piece_length};
 
@@ -20,6 +21,21 @@ pub enum Place {
     Subscription(u32),
 }
 
+/// A path of the table, whatever name stands in it.
+#[derive(Clone, Copy, PartialEq, Eq, Debug, Drop)]
+pub enum Route {
+    /// The collection of charging sessions.
+    Sessions,
+    /// The update of a session.
+    Update,
+    /// The release of a session.
+    Release,
+    /// The collection of subscriptions to spending limits.
+    Subscriptions,
+    /// A subscription.
+    Subscription,
+}
+
 fn number_in(name: &[u8]) -> u32
     ensures { result ≡ number_in name.now }
 {
@@ -29,75 +45,36 @@ fn number_in(name: &[u8]) -> u32
     }
 }
 
-fn deed(reference: u32, text: &[u8]) -> Option<Place>
-    ensures { result ≡ deed reference text.now }
+fn name_after<'a>(collection: &str, path: &'a [u8]) -> &'a [u8]
+    ensures { result.now ≡ name_after collection.now path.now }
 {
-    if text == b"/update".as_slice() {
-        Some(Place::Update(reference))
-    } else if text == b"/release".as_slice() {
-        Some(Place::Release(reference))
-    } else {
-        None
+    match path.get(collection.len() + 1..) {
+        Some(rest) => &rest[..piece_length(b'/', rest)],
+        None => b"",
     }
 }
 
-fn in_session(text: &[u8]) -> Option<Place>
-    ensures { result ≡ in_session text.now }
+fn session_in(path: &[u8]) -> u32
+    ensures { result ≡ number_in (name_after sessions path.now) }
 {
-    let end = piece_length(b'/', text);
-    let (name, rest) = text.split_at(end);
-    if end > 0 {
-        deed(number_in(name), rest)
-    } else {
-        None
-    }
+    number_in(name_after("/nchf-convergedcharging/v3/chargingdata", path))
 }
 
-fn below_sessions(text: &[u8]) -> Option<Place>
-    ensures { result ≡ below_sessions text.now }
+fn subscription_in(path: &[u8]) -> u32
+    ensures { result ≡ number_in (name_after subscriptions path.now) }
 {
-    match text {
-        [] => Some(Place::Sessions),
-        [b'/', rest @ ..] => in_session(rest),
-        _ => None,
-    }
+    number_in(name_after("/nchf-spendinglimitcontrol/v1/subscriptions", path))
 }
 
-fn in_subscription(text: &[u8]) -> Option<Place>
-    ensures { result ≡ in_subscription text.now }
+/// The place that a path of a route names.
+pub fn place_by(route: Route, path: &[u8]) -> Place
+    ensures { result ≡ place_by route path.now }
 {
-    if text.is_empty() || piece_length(b'/', text) < text.len() {
-        return None;
+    match route {
+        Route::Sessions => Place::Sessions,
+        Route::Update => Place::Update(session_in(path)),
+        Route::Release => Place::Release(session_in(path)),
+        Route::Subscriptions => Place::Subscriptions,
+        Route::Subscription => Place::Subscription(subscription_in(path)),
     }
-    Some(Place::Subscription(number_in(text)))
-}
-
-fn below_subscriptions(text: &[u8]) -> Option<Place>
-    ensures { result ≡ below_subscriptions text.now }
-{
-    match text {
-        [] => Some(Place::Subscriptions),
-        [b'/', rest @ ..] => in_subscription(rest),
-        _ => None,
-    }
-}
-
-fn place_in(path: &[u8]) -> Option<Place>
-    ensures { result ≡ place_in path.now }
-{
-    if let Some(rest) = path.strip_prefix(b"/nchf-convergedcharging/v3/chargingdata") {
-        return below_sessions(rest);
-    }
-    match path.strip_prefix(b"/nchf-spendinglimitcontrol/v1/subscriptions") {
-        Some(rest) => below_subscriptions(rest),
-        None => None,
-    }
-}
-
-/// The place that a path names; its query is read past, and nothing is decoded.
-pub fn place_at(path: &[u8]) -> Option<Place>
-    ensures { result ≡ place_at path.now }
-{
-    let end = piece_length(b'?', path);
-    place_in(&path[..end])
 }
