@@ -10,8 +10,9 @@ use Rattle.chf_core.specs.Deciding.{decision}
 use Rattle.chf_rows.specs.OperatorRow.{command_of}
 use Rattle.charging.specs.declared.item.Item.{Item}
 use Rattle.charging.specs.declared.item.Item.TheVariants.{Blank, Row, Message, Bad}
-use Rattle.charging.specs.Answering.{after_command, after_item, after_message, decided}
-use Rattle.charging.specs.Routing.{command_at}
+use Rattle.charging.specs.Answering.{after_command, after_item}
+use Rattle.chf_messages.specs.Answering.{after_message, decided}
+use Rattle.chf_messages.specs.Routing.{command_at}
 
 -- a number that was counted up is not 0
 one_more : (n : ℕ) → (n + 1 == 0) ≡ false

@@ -7,7 +7,6 @@ pub mod OneRow
 pub mod PlainLines
 pub mod PlainPieces
 pub mod Begins
-pub mod Ascends
 pub mod Begun
 pub mod NamesInOrder
 pub mod ClapFaults
@@ -18,7 +17,6 @@ pub mod Runs
 pub mod Tables
 pub mod Ranges
 pub mod Causes
-pub mod Answered
 pub mod Left
 pub mod AfterSetup
 pub mod Printing

@@ -4,8 +4,8 @@ use Rattle.std.specs.Str.{is_utf8}
 use Rattle.std.specs.List.{list_all}
 use Rattle.csv.specs.Reading.{default_config, records, strip_bom}
 use Rattle.rows.specs.Pieces.{piece_length, pieces}
-use Rattle.charging.specs.declared.item.Method.{Method}
-use Rattle.charging.specs.declared.item.Method.TheVariants.{Post, Put, Delete}
+use Rattle.chf_messages.specs.declared.method.Method.{Method}
+use Rattle.chf_messages.specs.declared.method.Method.TheVariants.{Post, Put, Delete}
 use Rattle.charging.specs.declared.item.Item.{Item}
 use Rattle.charging.specs.declared.item.Item.TheVariants.{Blank, Row, Message, Bad}
 

@@ -7,10 +7,7 @@ pub mod Items
 pub mod Accepted
 pub mod AccountLines
 pub mod NoticeLines
-pub mod Routing
-pub mod Ascending
 pub mod Answering
-pub mod Laws
 pub mod Tasks
 pub mod Status
 pub mod Taking

@@ -1,32 +1,28 @@
 //! What the charging function answers on each item of an input.
-ghost use Rattle.std.specs.Prelude.{◌≡◌, ◌++◌, ◌==◌, false, Ok, Some, None, IfOk, OnOk, codes, option_copied, option_map};
-ghost use Rattle.std.specs.Option.{option_and_then};
+ghost use Rattle.std.specs.Prelude.{◌≡◌, ◌++◌, ◌==◌, false, IfOk, OnOk, codes};
 ghost use Rattle.std.specs.Fmt.{decimal};
 ghost use Rattle.chf_core.specs.State.{nothing_yet};
 ghost use Rattle.chf_core.specs.Deciding.{decision};
 ghost use Rattle.chf_core.specs.After.{after, is_setup};
-ghost use Rattle.chf_core.specs.Standing.{reply_of};
 ghost use Rattle.chf_core.specs.declared.command.Command.TheVariants.{Setup};
-ghost use Rattle.units.specs.declared.reply.Reply.TheVariants as reply;
 ghost use Rattle.charging.specs.AccountLines.{account_lines};
 ghost use Rattle.charging.specs.NoticeLines.{notice_lines};
-ghost use Rattle.charging.specs.Answering.{after_command, after_item, after_message, command_line, decided, line_of, message_line, message_response, outcome_response, printed, refusal_number, refused_reply, response_of, verdict_line, verdict_response};
-ghost use Rattle.charging.specs.Routing.{command_at};
-ghost use Rattle.charging.specs.Ascending.{AscendsIn};
+ghost use Rattle.charging.specs.Answering.{after_command, after_item, command_line, line_of, message_line, printed, refusal_number, verdict_line};
+ghost use Rattle.chf_messages.specs.Answering.{after_message, decided, message_response};
+ghost use Rattle.chf_messages.specs.Routing.{command_at};
 ghost use Rattle.chf_rows.specs.OperatorRow.{command_of};
 
 use crate::account_lines::push_accounts;
-use crate::item::{Item, Method};
+use crate::item::Item;
 use crate::items::Items;
 use crate::notice_lines::push_notices;
-use crate::responses::{push_given, push_made, push_number, push_removed, push_reply};
-use crate::routing::command_at;
-use chf_core::{Chf, ChfRefusal, ChfSetup, Command, Decision, Outcome, problem, refusal_reply};
+use crate::responses::{push_number, push_response};
+use chf_core::{Chf, ChfRefusal, ChfSetup, Command, Decision};
+use chf_messages::{Method, answer_message};
 use chf_rows::read_operator_row;
-use counters::statuses_ascend;
 use routes::Routes;
-use std::alloc::{AllocError, Global};
-use units::{Cause, OutOfMemory, Problem, Reply, Text, name_of_cause};
+use std::alloc::Global;
+use units::{OutOfMemory, Text};
 
 /// The number of a refusal.
 fn refusal_number(refusal: ChfRefusal) -> u16
@@ -79,111 +75,6 @@ fn push_command(
     Ok(())
 }
 
-// A problem that says this cause.
-fn caused(alloc: Global, status: u16, cause: &str, field: Option<&str>) -> Result<Reply, AllocError>
-    ensures { IfOk result (λ r. r ≡ reply.Refused (record { status = status; cause = cause.now; detail = option_map (λ t. t.now) field.entry })) }
-{
-    let detail = match field {
-        Some(field) => Some(Text::from_text(alloc, field)?),
-        None => None,
-    };
-    Ok(Reply::Refused {
-        problem: Problem {
-            status,
-            cause: Text::from_text(alloc, cause)?,
-            detail,
-        },
-    })
-}
-
-// The problem that refuses a message.
-fn refused_reply(alloc: Global, refusal: ChfRefusal) -> Result<Option<Reply>, AllocError>
-    ensures { IfOk result (λ r. r ≡ refused_reply refusal) }
-{
-    match refusal {
-        ChfRefusal::UserUnknown => Ok(Some(problem(alloc, 404, Cause::UserUnknown)?)),
-        ChfRefusal::WrongSupi => Ok(Some(caused(
-            alloc,
-            400,
-            name_of_cause(Cause::MandatoryIncorrect),
-            Some("supi"),
-        )?)),
-        ChfRefusal::UnknownCounter => {
-            Ok(Some(caused(alloc, 400, "UNKNOWN_POLICY_COUNTERS", None)?))
-        }
-        ChfRefusal::UnknownSubscription => {
-            Ok(Some(caused(alloc, 404, "SUBSCRIPTION_NOT_FOUND", None)?))
-        }
-        _ => refusal_reply(alloc, refusal),
-    }
-}
-
-fn push_refusal(alloc: Global, refusal: ChfRefusal, out: &mut Vec<u8>) -> Result<(), OutOfMemory>
-    ensures { OnOk result (out.new.items ≡ out.old.items ++ message_line (option_map response_of (refused_reply refusal))) }
-{
-    match refused_reply(alloc, refusal)? {
-        Some(reply) => push_reply(alloc, &reply, out),
-        None => Ok(()),
-    }
-}
-
-// Writes the reply that a kept request came to.
-fn push_kept(alloc: Global, outcome: Option<&Outcome>, out: &mut Vec<u8>) -> Result<(), OutOfMemory>
-    ensures { OnOk result (out.new.items ≡ out.old.items ++ message_line (option_map response_of (option_and_then reply_of (option_copied outcome.entry)))) }
-{
-    match outcome {
-        Some(Outcome::Charged(reply)) => push_reply(alloc, reply, out),
-        _ => Ok(()),
-    }
-}
-
-// Writes the response to what the command of a message comes to.
-fn push_outcome(
-    alloc: Global,
-    command: &Command,
-    outcome: &Outcome,
-    out: &mut Vec<u8>,
-) -> Result<(), OutOfMemory>
-    requires { AscendsIn outcome.now }
-    ensures { OnOk result (out.new.items ≡ out.old.items ++ message_line (outcome_response command.now outcome.now)) }
-{
-    match outcome {
-        Outcome::Charged(reply) => push_reply(alloc, reply, out),
-        Outcome::Spending { id, status } => match command {
-            Command::Subscribe { .. } => push_made(alloc, *id, status, out),
-            _ => push_given(alloc, status, out),
-        },
-        Outcome::Removed => push_removed(alloc, out),
-        Outcome::Done => Ok(()),
-        Outcome::Known => Ok(()),
-    }
-}
-
-// Gives the command of a message to the machine.
-fn push_called(
-    alloc: Global,
-    chf: &mut Chf,
-    command: &Command,
-    out: &mut Vec<u8>,
-) -> Result<(), OutOfMemory>
-    requires begun { (chf.old.state.count == 0) ≡ false }
-    requires later { is_setup command.now ≡ false }
-    ensures line { OnOk result (out.new.items ≡ out.old.items ++ message_line (verdict_response chf.old.state command.now (decision chf.old.state command.now))) }
-    ensures state { OnOk result (chf.new.state ≡ decided chf.old.state command.now (decision chf.old.state command.now)) }
-{
-    statuses_ascend();
-    match chf.decide(alloc, command)? {
-        Decision::Kept(place) => push_kept(alloc, chf.outcome_at(place), out)?,
-        Decision::Known => {}
-        Decision::Refused(refusal) => push_refusal(alloc, refusal, out)?,
-        Decision::Fresh(plan) => {
-            push_outcome(alloc, command, Chf::outcome(&plan), out)?;
-            chf.commit(plan);
-        }
-    }
-    Ok(())
-}
-
 fn push_message(
     alloc: Global,
     routes: &Routes,
@@ -197,9 +88,9 @@ fn push_message(
     ensures line { OnOk result (out.new.items ≡ out.old.items ++ message_line (message_response chf.old.state (command_at method path.now body.now))) }
     ensures state { OnOk result (chf.new.state ≡ after_message chf.old.state (command_at method path.now body.now)) }
 {
-    match command_at(alloc, routes, method, path, body)? {
-        Ok(command) => push_called(alloc, chf, &command, out),
-        Err(reply) => push_reply(alloc, &reply, out),
+    match answer_message(alloc, routes, chf, method, path, body)? {
+        Some(response) => push_response(alloc, &response, out),
+        None => Ok(()),
     }
 }
 

@@ -1,13 +1,6 @@
 //! Items: what a row of `operator` or a line of `answer` says.
+use chf_messages::Method;
 use units::{List, Text};
-
-/// The method of a message (RFC 9110, 9.3).
-#[derive(Clone, Copy, PartialEq, Eq, Debug)]
-pub enum Method {
-    Post,
-    Put,
-    Delete,
-}
 
 /// A row or line of an input.
 #[derive(Debug, Drop)]

@@ -3,9 +3,10 @@ ghost use Rattle.std.specs.Prelude.{◌≡◌, IfOk, Some, None, drop, length, o
 ghost use Rattle.charging.specs.Items.{answer_items, begins_with, line_by, line_item, message_item, message_of, method_of, method_word};
 ghost use Rattle.charging.specs.Taking.{lines_left};
 
-use crate::item::{Item, Method};
+use crate::item::Item;
 use crate::items::Items;
 use crate::row_items::{as_text, only_row};
+use chf_messages::Method;
 use rows::piece_length;
 use std::alloc::{AllocError, Global};
 use units::{List, OutOfMemory};

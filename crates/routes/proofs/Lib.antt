@@ -1,3 +1,4 @@
+mod Inserts
 mod Levels
 mod Literal
 mod Names

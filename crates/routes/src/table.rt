@@ -1,5 +1,6 @@
 //! The table of the paths, kept by a router.
-ghost use Rattle.std.specs.Prelude.{◌≡◌, IfOk};
+ghost use Rattle.std.specs.Prelude.{◌≡◌, IfErr, IfOk};
+ghost use Rattle.matchit.specs.declared.error.InsertError.TheVariants as insert;
 ghost use Rattle.routes.specs.Table.{place_by, route_in, table};
 ghost use Rattle.routes.specs.Paths.{place_at, place_in};
 ghost use Rattle.routes.specs.Calls.{call_of};
@@ -28,8 +29,10 @@ impl Model for Routes {
     ghost invariant = { λ routes. routes.router ≡ table };
 }
 
+// No two of the routes conflict.
 fn router(alloc: Global) -> Result<Router<Route>, InsertError>
-    ensures { IfOk result (λ router. router ≡ table) }
+    ensures table { IfOk result (λ router. router ≡ table) }
+    ensures memory { IfErr result (λ why. why ≡ insert.OutOfMemory) }
 {
     let mut router = Router::new(alloc);
     router.insert("/nchf-convergedcharging/v3/chargingdata", Route::Sessions)?;
@@ -61,7 +64,8 @@ impl Routes {
     pub fn new(alloc: Global) -> Result<Routes, OutOfMemory> {
         match router(alloc) {
             Ok(router) => Ok(Routes { router }),
-            Err(_) => Err(OutOfMemory),
+            Err(InsertError::OutOfMemory) => Err(OutOfMemory),
+            Err(_) => unreachable!(),
         }
     }
 

@@ -21,8 +21,8 @@ use Rattle.charging_json.specs.Cause.{cause_of}
 use Rattle.charging_json.specs.Request.{request_in}
 use Rattle.spend_json.specs.Cause as spending
 use Rattle.spend_json.specs.Context.{context_in}
-use Rattle.charging.specs.declared.item.Method.{Method}
-use Rattle.charging.specs.declared.item.Method.TheVariants.{Post, Put, Delete}
+use Rattle.chf_messages.specs.declared.method.Method.{Method}
+use Rattle.chf_messages.specs.declared.method.Method.TheVariants.{Post, Put, Delete}
 
 -- the word of a method (RFC 9110, 9.3)
 abbrev pub method_text : Method → List ℕ

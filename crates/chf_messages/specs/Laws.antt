@@ -2,9 +2,9 @@
 use Rattle.std.specs.Prelude.{◌≡◌, ℕ, true, is_some, List}
 use Rattle.chf_core.specs.declared.command.Command.{Command}
 use Rattle.chf_core.specs.After.{state_of}
-use Rattle.charging.specs.declared.item.Method.{Method}
-use Rattle.charging.specs.Answering.{message_response}
-use Rattle.charging.specs.Routing.{command_at}
+use Rattle.chf_messages.specs.declared.method.Method.{Method}
+use Rattle.chf_messages.specs.Answering.{message_response}
+use Rattle.chf_messages.specs.Routing.{command_at}
 
 -- Whatever commands were accepted before it, a message has a response, and so its line.
 abbrev pub EachMessageIsAnswered : Type 0

@@ -1,5 +1,5 @@
-use Rattle.charging.proofs.Answered.{always_a_response}
-use Rattle.charging.proofs.laws.each_message_is_answered.Goals as goal
+use Rattle.chf_messages.proofs.Answered.{always_a_response}
+use Rattle.chf_messages.proofs.laws.each_message_is_answered.Goals as goal
 
 pub returns : goal.returns
 returns c =

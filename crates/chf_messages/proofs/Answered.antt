@@ -27,9 +27,10 @@ use Rattle.chf_core.specs.Joined.{DecisionsAreJoined}
 use Rattle.chf_core.specs.Verdicts.{VerdictsSuitCommands, IsOfCommand, IsOfSpending, IsOfUnsubscribe, RefusesSubscribe, RefusesModify, RefusesUnsubscribe}
 use Rattle.charging_json.specs.Request.{request_in}
 use Rattle.spend_json.specs.Context.{context_in}
-use Rattle.charging.specs.Answering.{message_response, outcome_response, refused_reply, response_of, verdict_response}
-use Rattle.charging.specs.Routing.{charge_in, command_by, command_in, method_text, modify_in, subscribe_in}
-use Rattle.charging.specs.Laws.{EachMessageIsAnswered}
+use Rattle.chf_messages.specs.Responses.{response_of}
+use Rattle.chf_messages.specs.Answering.{message_response, outcome_response, refused_reply, verdict_response}
+use Rattle.chf_messages.specs.Routing.{charge_in, command_by, command_in, method_text, modify_in, subscribe_in}
+use Rattle.chf_messages.specs.Laws.{EachMessageIsAnswered}
 
 -- a command of a message has a response
 abbrev IsAnswered : State → Command → Verdict → Type 0

@@ -3,9 +3,9 @@ ghost use Rattle.std.specs.Prelude.{◌≡◌, false, IfOk};
 ghost use Rattle.charging_json.specs.Request.{request_in};
 ghost use Rattle.spend_json.specs.Context.{context_in};
 ghost use Rattle.chf_core.specs.After.{is_setup};
-ghost use Rattle.charging.specs.Routing.{body_problem, charge_in, command_at, command_in, field_of, method_text, modify_in, no_call, subscribe_in};
+ghost use Rattle.chf_messages.specs.Routing.{body_problem, charge_in, command_at, command_in, field_of, method_text, modify_in, no_call, subscribe_in};
 
-use crate::item::Method;
+use crate::method::Method;
 use charging_json::read_request;
 use chf_core::{Command, problem};
 use routes::{Call, NoCall, Routes, status_of};

@@ -13,7 +13,7 @@ use Rattle.chf_core.specs.declared.command.Command.TheVariants.{Subscribe, Modif
 use Rattle.chf_core.specs.Spending.{counters_in}
 use Rattle.chf_core.specs.State.{State}
 use Rattle.chf_core.specs.Deciding.{outcome_of, spent_of}
-use Rattle.charging.specs.Ascending.{AscendsIn}
+use Rattle.chf_messages.specs.Ascending.{AscendsIn}
 
 both : (a b : Bool) → a ≡ true → b ≡ true → (a && b) ≡ true
 both true b e f = f

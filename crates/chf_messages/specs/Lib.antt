@@ -1,0 +1,5 @@
+pub mod Routing
+pub mod Responses
+pub mod Answering
+pub mod Ascending
+pub mod Laws
